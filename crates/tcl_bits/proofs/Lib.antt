@@ -1,0 +1,12 @@
+pub mod Values
+pub mod Sums
+pub mod Cuts
+pub mod Comparisons
+pub mod Signs
+pub mod Products
+pub mod Bitwise
+pub mod Words
+pub mod Widths
+pub mod Ranges
+pub mod ExactResults
+pub mod Steps

@@ -1,0 +1,12 @@
+//! Integer arithmetic that std lacks: ring laws, congruence, the values of a word, saturating counts and residues.
+#![tactic(auto)]
+
+mod count;
+mod magnitude;
+mod range;
+mod residue;
+
+pub use count::{saturating_product, saturating_sum};
+pub use magnitude::{is_small, small_negation, small_product, small_sum};
+pub use range::{in_range, least_value, power_of_two, values_end, wrap_to};
+pub use residue::{add_mod, mul_mod};

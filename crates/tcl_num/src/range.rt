@@ -1,0 +1,107 @@
+// The values of a word of some width, and the one that is congruent to an integer.
+
+ghost use Rattle.std.specs.Prelude.{◌≡◌, ℕ, ℤ, ◌<◌, ◌≤◌, ◌^◌, ◌↔◌, pos, IsTrue};
+ghost use Rattle.tcl_num.specs.Congruence.{Congruent};
+ghost use Rattle.tcl_num.specs.Range as r;
+
+/// 2 to the power `exponent`.
+pub fn power_of_two(exponent: u32) -> i128
+    requires { exponent < 127 }
+    ensures { result ≡ pos (2 ^ exponent) }
+{
+    1i128 << exponent
+}
+
+/// The least value of a word of `width` bits.
+pub fn least_value(signed: bool, width: u32) -> i128
+    requires positive { 0 < width }
+    requires narrow { width ≤ 64 }
+    ensures { result ≡ r.least_value signed width }
+{
+    if signed { -power_of_two(width - 1) } else { 0 }
+}
+
+/// The first integer above the values of a word of `width` bits.
+pub fn values_end(signed: bool, width: u32) -> i128
+    requires positive { 0 < width }
+    requires narrow { width ≤ 64 }
+    ensures { result ≡ r.values_end signed width }
+{
+    if signed {
+        power_of_two(width - 1)
+    } else {
+        power_of_two(width)
+    }
+}
+
+/// Whether a word of `width` bits, signed or not, has the value `n`.
+pub fn in_range(signed: bool, width: u32, n: i128) -> bool
+    requires positive { 0 < width }
+    requires narrow { width ≤ 64 }
+    ensures { IsTrue result ↔ r.InRange signed width n }
+{
+    least_value(signed, width) <= n && n < values_end(signed, width)
+}
+
+/// The value of a word of `width` bits that is congruent to `n` modulo 2 ^ width: the one whose bits are the lowest
+/// `width` bits of `n` in two's complement.
+pub fn wrap_to(signed: bool, width: u32, n: i128) -> i128
+    requires positive { 0 < width }
+    requires narrow { width ≤ 64 }
+    ensures value { result ≡ r.wrapped signed width n }
+    ensures in_range { r.InRange signed width result }
+    ensures congruent { Congruent (pos (2 ^ width)) n result }
+    ensures only { (v : ℤ) → r.InRange signed width v → Congruent (pos (2 ^ width)) n v → v ≡ result }
+{
+    residue_value(signed, width, n)
+}
+
+// The same, by the remainder from 0 up. To add half of the range first would overflow near the greatest `i128`.
+#[tactic(auto, unfolding(crate::specs::Range::wrapped))]
+fn residue_value(signed: bool, width: u32, n: i128) -> i128
+    requires positive { 0 < width }
+    requires narrow { width ≤ 64 }
+    ensures { result ≡ r.wrapped signed width n }
+{
+    let whole = power_of_two(width);
+    let left = n.rem_euclid(whole);
+    if signed {
+        let half = power_of_two(width - 1);
+        if left < half { left } else { left - whole }
+    } else {
+        left
+    }
+}
+
+#[cfg(test)]
+mod tests {
+    use super::*;
+    use std::process::Abort;
+
+    fn expect_wrapped(rt: &impl Abort, signed: bool, width: u32, n: i128, value: i128)
+        requires positive { 0 < width }
+        requires narrow { width ≤ 64 }
+    {
+        assert_eq!(rt; wrap_to(signed, width, n), value, "{n} at {width} bits");
+        assert_eq!(rt;
+            in_range(signed, width, n),
+            n == value,
+            "{n} at {width} bits"
+        );
+    }
+
+    // The values come from python3.
+    #[test]
+    fn wrapped_values(rt: HostRuntime) {
+        expect_wrapped(&rt, true, 8, 200, -56);
+        expect_wrapped(&rt, true, 8, -129, 127);
+        expect_wrapped(&rt, false, 8, -1, 255);
+        expect_wrapped(&rt, true, 64, i128::MAX, -1);
+        expect_wrapped(&rt, true, 64, i128::MIN, 0);
+        expect_wrapped(&rt, false, 64, i128::MIN + 5, 5);
+        expect_wrapped(&rt, true, 2, 2, -2);
+        expect_wrapped(&rt, false, 1, 3, 1);
+        expect_wrapped(&rt, true, 13, 4096, -4096);
+        expect_wrapped(&rt, false, 64, 18446744073709551616, 0);
+    }
+}
