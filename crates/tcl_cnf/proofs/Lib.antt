@@ -1,0 +1,13 @@
+pub mod Bools
+pub mod Members
+pub mod Entries
+pub mod Ordered
+pub mod Clauses
+pub mod Truth
+pub mod Freshness
+pub mod Joins
+pub mod Chains
+pub mod LogLemmas
+pub mod RowLemmas
+pub mod MarkLemmas
+pub mod ResolutionLemmas

@@ -1,0 +1,14 @@
+pub mod WrappedWords
+pub mod ResultRows
+pub mod StepLaw
+pub mod ResultTypes
+pub mod TypedStores
+pub mod TypedRuns
+pub mod MachineProducts
+pub mod MachineSteps
+pub mod MachineRuns
+pub mod TermSizes
+pub mod TruthLaw
+pub mod Runs
+pub mod Correctness
+pub mod Redefinition

@@ -1,0 +1,10 @@
+pub mod Parting
+pub mod Digits
+pub mod Going
+pub mod Operands
+pub mod LineForms
+pub mod Numbers
+pub mod Comparisons
+pub mod Typed
+pub mod Shapes
+pub mod Whole

@@ -1,0 +1,3 @@
+pub mod FirstProgram
+pub mod FirstText
+pub mod FirstReading

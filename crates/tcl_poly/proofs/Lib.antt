@@ -1,0 +1,13 @@
+pub mod MonomialLaws
+pub mod FactorLists
+pub mod FactorMerging
+pub mod Weights
+pub mod Canonical
+pub mod RingLaws
+pub mod Values
+pub mod Norms
+pub mod Degrees
+pub mod Merging
+pub mod TermLists
+pub mod TermMerging
+pub mod Halves

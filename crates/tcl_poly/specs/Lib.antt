@@ -1,0 +1,3 @@
+pub mod Monomial
+pub mod Unknown
+pub mod Polynomial

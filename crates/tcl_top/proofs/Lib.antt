@@ -1,0 +1,9 @@
+pub mod InputLemmas
+pub mod StoreLemmas
+pub mod WalkLemmas
+pub mod Refuting
+pub mod Numbering
+pub mod Finding
+pub mod TextLemmas
+pub mod FirstIsEarly
+pub mod Verdict

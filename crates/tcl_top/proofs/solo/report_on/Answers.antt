@@ -1,0 +1,7 @@
+use Rattle.std.proofs.Common.{◌≡◌, sym, subst}
+use Rattle.tcl_top.specs.Early.{IsEarlyProgram}
+use Rattle.tcl_top.proofs.FirstIsEarly.{first_is_early}
+use Rattle.tcl_top.proofs.solo.report_on.Goals as goal
+
+pub answers-requires : goal.answers-requires
+answers-requires c = subst IsEarlyProgram (sym c.program.ensures) (first_is_early c.args.parsed.now.program c.requires.first)

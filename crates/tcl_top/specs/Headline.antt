@@ -1,0 +1,147 @@
+-- What the top call answers for the bytes that it reads: a status and a text.
+use Rattle.std.specs.Prelude.{◌≡◌, ◌⊎◌, ◌<◌, ◌≤◌, ◌+◌, ℕ, ℤ, Bool, true, false, if◌then◌else◌, ◌==◌, ◌||◌, codes, List, [], ◌∷◌, ◌++◌, length, take, Option}
+use Rattle.tcl_io.specs.Source.{then_left, IsEmptied}
+use Rattle.tcl_io.specs.Sink.{and_then}
+use Rattle.tcl_lang.specs.Program.{ReadProgram}
+use Rattle.tcl_lang.specs.Correct.{IsCorrect}
+use Rattle.tcl_parse.specs.FirstText.{IsFirstText}
+use Rattle.tcl_top.specs.declared.answer.Answer.{Answer}
+use Rattle.tcl_top.specs.Answers.{AreTrueAnswers, any_refuted}
+use Rattle.tcl_top.specs.Inputs.{IsLeastCounterexample}
+use Rattle.tcl_top.specs.Report.{report_of}
+
+-- the greatest number of bytes of a text
+abbrev pub byte_limit : ℕ
+byte_limit = 1048576
+
+-- the texts of refusals
+abbrev pub usage_text : List ℕ
+usage_text = codes "refused usage" ++ 10 ∷ []
+
+abbrev pub limit_text : List ℕ
+limit_text = codes "refused limit bytes" ++ 10 ∷ []
+
+abbrev pub later_text : List ℕ
+later_text = codes "refused later line 1" ++ 10 ∷ []
+
+-- status 1 where some goal is refuted, and 0 where none is
+abbrev pub verdict_status : List Answer → ℕ
+verdict_status answers = if any_refuted answers then 1 else 0
+
+-- the bytes are a program, and this is the status and the text of a report on it of which every line is true
+pub record IsReported (bytes : List ℕ) (status : ℕ) (text : List ℕ) : Type 0 where
+  pub program : ReadProgram
+  pub reads : IsFirstText bytes program
+  pub answers : List Answer
+  pub are_true : AreTrueAnswers (length program.program.names) program.program.lines answers
+  pub status_is : status ≡ verdict_status answers
+  pub text_is : text ≡ report_of program answers
+
+-- the bytes are no program of the first form
+pub record IsLater (bytes : List ℕ) (status : ℕ) (text : List ℕ) : Type 0 where
+  pub reads : (program : ReadProgram) → IsFirstText bytes program → ⊥
+  pub status_is : status ≡ 10
+  pub text_is : text ≡ later_text
+
+-- the status and the text for a text that was read to its end
+abbrev pub IsAnswered : List ℕ → ℕ → List ℕ → Type 0
+IsAnswered bytes status text = IsReported bytes status text ⊎ IsLater bytes status text
+
+-- the source was read to its end, and these are the bytes that it gave
+pub record IsReadWhole (left left_new : Option (List ℕ)) (given given_new : ℕ) (bytes : List ℕ) : Type 0 where
+  pub told : left ≡ then_left bytes left_new
+  pub emptied : IsEmptied left_new
+  pub counted : given_new ≡ given + length bytes
+  pub within : length bytes ≤ byte_limit
+
+-- there is a word: the refusal of usage
+pub record IsUsageRow (words status : ℕ) (text : List ℕ) : Type 0 where
+  pub some_word : 0 < words
+  pub status_is : status ≡ 8
+  pub text_is : text ≡ usage_text
+
+-- more bytes were read than a text may have: the refusal by the limit
+pub record IsLimitRow (words given given_new status : ℕ) (text : List ℕ) : Type 0 where
+  pub no_word : words ≡ 0
+  pub beyond : given + byte_limit < given_new
+  pub status_is : status ≡ 9
+  pub text_is : text ≡ limit_text
+
+-- a whole text was read: its report, or the refusal of a text that is not of the first form
+pub record IsAnswerRow (words : ℕ) (left left_new : Option (List ℕ)) (given given_new status : ℕ) (text : List ℕ) : Type 0 where
+  pub no_word : words ≡ 0
+  pub bytes : List ℕ
+  pub read : IsReadWhole left left_new given given_new bytes
+  pub answered : IsAnswered bytes status text
+
+-- the status and the text that belong to the words and to what was read
+abbrev pub IsRow : ℕ → Option (List ℕ) → Option (List ℕ) → ℕ → ℕ → ℕ → List ℕ → Type 0
+IsRow words left left_new given given_new status text =
+    IsUsageRow words status text ⊎ IsLimitRow words given given_new status text
+    ⊎ IsAnswerRow words left left_new given given_new status text
+
+-- the whole text was written
+pub record IsWritten (taken taken_new : Option (List ℕ)) (status : ℕ) (text : List ℕ) (answer written : ℕ) : Type 0 where
+  pub status_is : answer ≡ status
+  pub written_is : written ≡ length text
+  pub sink : taken_new ≡ and_then taken text
+
+-- the sink failed after the first `written` bytes of the text
+pub record IsCutOff (taken taken_new : Option (List ℕ)) (text : List ℕ) (answer written : ℕ) : Type 0 where
+  pub status_is : answer ≡ 6
+  pub short : written < length text
+  pub sink : taken_new ≡ and_then taken (take written text)
+
+-- a status and a text were handed to the sink: the text was written whole, or the answer is 6
+abbrev pub IsDelivered : Option (List ℕ) → Option (List ℕ) → ℕ → List ℕ → ℕ → ℕ → Type 0
+IsDelivered taken taken_new status text answer written =
+    IsWritten taken taken_new status text answer written ⊎ IsCutOff taken taken_new text answer written
+
+-- the text of some row was delivered
+pub record DeliversRow (words : ℕ) (left left_new : Option (List ℕ)) (given given_new : ℕ) (taken taken_new : Option (List ℕ)) (answer written : ℕ) : Type 0 where
+  pub status : ℕ
+  pub text : List ℕ
+  pub row_is : IsRow words left left_new given given_new status text
+  pub delivered : IsDelivered taken taken_new status text answer written
+
+-- the program that was read is correct
+pub record ReadsCorrect (bytes : List ℕ) : Type 0 where
+  pub program : ReadProgram
+  pub reads : IsFirstText bytes program
+  pub correct : IsCorrect (length program.program.names) program.program.lines
+
+-- the statuses that the top call answers
+abbrev pub is_status : ℕ → Bool
+is_status n = n == 0 || n == 1 || n == 5 || n == 6 || n == 7 || n == 8 || n == 9 || n == 10
+
+-- the statuses that write nothing, and those that come with a text or a part of one
+abbrev pub is_silent : ℕ → Bool
+is_silent n = n == 5 || n == 7
+
+abbrev pub IsSilent : ℕ → Type 0
+IsSilent n = is_silent n ≡ true
+
+abbrev pub HasText : ℕ → Type 0
+HasText n = is_silent n ≡ false
+
+-- a whole text was read, and it is a correct program
+pub record IsVerified (left left_new : Option (List ℕ)) (given given_new : ℕ) : Type 0 where
+  pub bytes : List ℕ
+  pub read : IsReadWhole left left_new given given_new bytes
+  pub correct : ReadsCorrect bytes
+
+-- a whole text was read, and some goal of the program has a least input that refutes it
+pub record IsRefuted (left left_new : Option (List ℕ)) (given given_new : ℕ) : Type 0 where
+  pub bytes : List ℕ
+  pub read : IsReadWhole left left_new given given_new bytes
+  pub program : ReadProgram
+  pub reads : IsFirstText bytes program
+  pub goal : ℕ
+  pub input : List ℤ
+  pub refutes : IsLeastCounterexample (length program.program.names) program.program.lines input goal
+
+-- a whole text was read, and it is not of the first form
+pub record IsRefusedLater (left left_new : Option (List ℕ)) (given given_new : ℕ) : Type 0 where
+  pub bytes : List ℕ
+  pub read : IsReadWhole left left_new given given_new bytes
+  pub reads : (program : ReadProgram) → IsFirstText bytes program → ⊥

@@ -1,0 +1,12 @@
+//! The top call: from the bytes of a program to the bytes of its report.
+#![tactic(auto)]
+
+mod answer;
+mod evaluation;
+mod inputs;
+mod report;
+mod solo;
+mod walk;
+
+pub use answer::Answer;
+pub use solo::{Done, solo_run};
