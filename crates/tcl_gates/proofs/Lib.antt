@@ -1,0 +1,5 @@
+pub mod Table
+pub mod Values
+pub mod Circuit
+pub mod Rows
+pub mod Counts

@@ -1,0 +1,3 @@
+pub mod Gates
+pub use Rattle.tcl_cnf.specs.Literal
+pub use Rattle.tcl_cnf.specs.Clause

@@ -1,0 +1,21 @@
+// What follows from the definitions alone. The functions do nothing: their contracts are the laws.
+
+ghost use Rattle.std.specs.Prelude.{◌≡◌, ℕ, ◌+◌, ◌*◌, ◌/◌, ◌≤◌, Bool, false, List, [], ◌∷◌, ◌++◌, length};
+ghost use Rattle.tcl_cnf.specs.Literal.{literal_true};
+ghost use Rattle.tcl_gates.specs.Gates.{value_at, values_of, gate_value, is_free, IsBelow, clauses_of_table, gate_table};
+ghost use Rattle.tcl_gates.specs.declared.gate.Gate.{Gate};
+
+/// Gates that are appended change no older literal's value.
+pub fn older_values_stay()
+    ensures { (gates more : List Gate) (free : List Bool) (l : ℕ) → l / 2 ≤ length gates → literal_true (value_at (values_of (gates ++ more) free)) l ≡ literal_true (value_at (values_of gates free)) l }
+{}
+
+/// The literal of a new gate that is not free has the gate's value under the older values.
+pub fn a_new_gate_has_its_value()
+    ensures { (gates : List Gate) (gate : Gate) (free : List Bool) → is_free gate ≡ false → literal_true (value_at (values_of (gates ++ gate ∷ []) free)) (2 * (length gates + 1)) ≡ gate_value (value_at (values_of gates free)) gate }
+{}
+
+/// A gate that is not free gives at least two clauses, whatever its literals are.
+pub fn a_gate_gives_two_clauses()
+    ensures { (n : ℕ) (gate : Gate) → is_free gate ≡ false → IsBelow n gate → 2 ≤ length (clauses_of_table (gate_table (2 * n) gate)) }
+{}
