@@ -1,0 +1,11 @@
+pub mod Lines
+pub mod Tokens
+pub mod Words
+pub mod Numbering
+pub mod Trees
+pub mod Grammar
+pub mod Statements
+pub mod Scan
+pub mod Verdict
+pub mod Reading
+pub mod Canonical

@@ -1,0 +1,5 @@
+pub mod Assignment
+pub mod Trail
+pub mod Scan
+pub mod Kept
+pub mod Turns
