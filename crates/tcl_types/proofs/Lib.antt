@@ -1,0 +1,4 @@
+pub mod Powers
+pub mod Ends
+pub mod LineReasons
+pub mod Places
