@@ -1,6 +1,6 @@
 -- One input more, and the whole walk.
-use Rattle.std.proofs.Common.{◌≡◌, ◌≢◌, ◌<◌, ◌≤◌, ◌+◌, ◌^◌, ◌⊎◌, inl, inr, ℕ, zero, suc, Bool, true, false, List, [], ◌∷◌, ◌&&◌, map, cond, ℤ, length, take, drop, set, get_or, replicate, refl, ap, sym, subst, ◌∙◌, arith, Option, Some, None}
-use Rattle.std.specs.List.{slice_get, list_all, count_by, filter_map}
+use Rattle.std.proofs.Common.{◌≡◌, ◌<◌, ◌≤◌, ◌+◌, ◌^◌, ◌⊎◌, inl, inr, ℕ, zero, suc, Bool, true, false, List, [], ◌∷◌, ◌&&◌, map, cond, ℤ, length, take, set, get_or, replicate, refl, ap, sym, subst, ◌∙◌, arith, Option, Some, None}
+use Rattle.std.specs.List.{slice_get, list_all, count_by}
 use Rattle.std.proofs.lemmas.List.{length-map}
 use Rattle.std.proofs.lemmas.List.Sums.{count_by_more_yes, sum_by-take-le}
 use Rattle.std.proofs.lemmas.Option.{slice_get_within, slice_get-get_or, get_or_from_slice_get}
@@ -9,13 +9,13 @@ use Rattle.tcl_lang.specs.declared.instr.Op.{Op}
 use Rattle.tcl_lang.specs.declared.instr.Op.TheVariants.{Nondet}
 use Rattle.tcl_lang.specs.declared.pred.Line.{Line}
 use Rattle.tcl_lang.specs.declared.pred.Line.TheVariants.{Input, Pre, Step, Assert, Assume, Cut, Post}
-use Rattle.tcl_lang.specs.Line.{is_goal, taken_type, choice_type}
-use Rattle.tcl_lang.specs.Run.{Fits, taken_types}
+use Rattle.tcl_lang.specs.Line.{is_goal, choice_type}
+use Rattle.tcl_lang.specs.Run.{taken_types}
 use Rattle.tcl_lang.specs.Goal.{goal_count, goals_before, IsGoalAt}
 use Rattle.tcl_lang.specs.Correct.{IsCounterexample}
 use Rattle.tcl_lang.proofs.Correctness.{goal_line, counterexample_once}
 use Rattle.tcl_top.specs.Early.{is_early_atom, is_early_line, is_early_op, is_early_step, is_early_type, total_width}
-use Rattle.tcl_top.specs.Inputs.{nth_input, IsBefore, IsLeastCounterexample}
+use Rattle.tcl_top.specs.Inputs.{nth_input, IsLeastCounterexample}
 use Rattle.tcl_top.specs.declared.answer.Answer.{Answer}
 use Rattle.tcl_top.specs.Answers.{IsTrueAnswer, AreTrueAnswers}
 use Rattle.tcl_top.specs.Found.{answer_of, RefutesBy, IsFirstFound, FoundAmong, first_of, noted}

@@ -1,5 +1,5 @@
 -- Steps over the types of an input, from what is left of the list.
-use Rattle.std.proofs.Common.{◌≡◌, ℕ, ◌+◌, ◌<◌, ◌≤◌, ◌/◌, ◌%◌, ◌^◌, ◌++◌, List, [], ◌∷◌, ℤ, pos, length, take, drop, get_or, set, refl, ap, sym, ◌∙◌, arith, Some, None, filter_map}
+use Rattle.std.proofs.Common.{◌≡◌, ℕ, ◌+◌, ◌<◌, ◌≤◌, ◌/◌, ◌%◌, ◌^◌, ◌++◌, List, [], ◌∷◌, ℤ, pos, length, take, drop, get_or, set, refl, ap, sym, ◌∙◌, arith, Some, None}
 use Rattle.std.proofs.lemmas.List.{at_drop_more, take_more_set, drop_all, append-nil, take_all}
 use mathlib.Core.List.{append_assoc}
 use Rattle.tcl_lang.specs.declared.ty.Ty.{Ty}

@@ -1,5 +1,5 @@
 -- The input of a run refutes the goal at which the run stops, and no other.
-use Rattle.std.proofs.Common.{◌≡◌, ◌<◌, ◌≤◌, ◌+◌, ◌&&◌, ◌⊎◌, inl, inr, ℕ, zero, suc, Bool, true, false, List, [], ◌∷◌, ℤ, length, refl, ap, sym, subst, ◌∙◌, arith, nat_le, Option, Some, None}
+use Rattle.std.proofs.Common.{◌≡◌, ◌<◌, ◌≤◌, ◌⊎◌, inl, inr, ℕ, zero, suc, true, false, List, [], ◌∷◌, ℤ, length, refl, ap, subst, ◌∙◌, arith, nat_le, Option, Some, None}
 use Rattle.std.specs.List.{slice_get}
 use Rattle.tcl_lang.specs.declared.pred.Line.{Line}
 use Rattle.tcl_lang.specs.declared.pred.Line.TheVariants.{Input, Pre, Step, Assert, Assume, Cut, Post}
@@ -8,7 +8,7 @@ use Rattle.tcl_lang.specs.Run.{Fits, taken_types}
 use Rattle.tcl_lang.specs.Shape.{stage_of, in_stages}
 use Rattle.tcl_lang.specs.Goal.{passes, is_goal_at, is_precondition_at, goals_before, truth_at}
 use Rattle.tcl_lang.specs.Correct.{IsCounterexample}
-use Rattle.tcl_lang.proofs.Correctness.{IsFirstFalse, AllTrueBefore, counterexample_first, first_false_once, first_false_refutes, goal_line, goal_within, precondition_within, false_within, true_not_false}
+use Rattle.tcl_lang.proofs.Correctness.{IsFirstFalse, counterexample_first, first_false_once, first_false_refutes, goal_line, false_within, true_not_false}
 use Rattle.tcl_top.proofs.WalkLemmas.{both_left, both_right}
 
 below_stage : (s t : ℕ) → nat_le s t ≡ true → s ≤ t

@@ -1,5 +1,5 @@
 -- What one instruction of one result writes.
-use Rattle.std.proofs.Common.{◌≡◌, ◌<◌, ◌∙◌, ℕ, List, [], ◌∷◌, ℤ, refl, ap, Option, Some, None}
+use Rattle.std.proofs.Common.{◌≡◌, ◌<◌, ◌∙◌, ℕ, List, [], ◌∷◌, ℤ, refl, ap, Some, None}
 use Rattle.std.specs.List.{slice_get}
 use Rattle.tcl_lang.specs.declared.ty.Ty.{Ty}
 use Rattle.tcl_lang.specs.declared.ty.Word.{Word}

@@ -1,6 +1,6 @@
 -- Texts that grow at their end, and the steps of a report over what is left of the lines.
-use Rattle.std.proofs.Common.{◌≡◌, ◌<◌, ◌≤◌, ◌+◌, ◌⊎◌, inl, inr, min, cond, ◌++◌, ℕ, ℤ, List, [], ◌∷◌, Bool, true, false, drop, get_or, length, refl, ap, sym, ◌∙◌, arith, Option, Some, None}
-use Rattle.std.specs.Prelude.{slice_get, slice_index, slice_index_or}
+use Rattle.std.proofs.Common.{◌≡◌, ◌<◌, ◌≤◌, ◌+◌, ◌⊎◌, inl, inr, min, cond, ◌++◌, ℕ, ℤ, List, [], ◌∷◌, Bool, true, false, drop, get_or, length, refl, ap, sym, ◌∙◌, arith, Some, None}
+use Rattle.std.specs.Prelude.{slice_get, slice_index_or}
 use Rattle.std.proofs.lemmas.List.{at_drop_more, drop_more, drop_all, append-nil}
 use Rattle.std.proofs.lemmas.Option.{slice_get_within, get_or_from_slice_get}
 use mathlib.Core.List.{append_assoc}

@@ -1,15 +1,14 @@
 -- What the status of a report says.
-use Rattle.std.proofs.Common.{◌≡◌, ◌<◌, ◌⊎◌, inl, inr, ℕ, zero, suc, Bool, true, false, ◌||◌, List, [], ◌∷◌, ℤ, length, refl, ap, sym, subst, ◌∙◌, arith, Option, Some, None, if◌then◌else◌}
-use Rattle.std.specs.List.{slice_get, list_any}
+use Rattle.std.proofs.Common.{◌≡◌, ◌<◌, inl, inr, ℕ, zero, suc, Bool, true, false, ◌||◌, List, [], ◌∷◌, ℤ, length, refl, sym, subst, ◌∙◌, arith, Some, if◌then◌else◌}
+use Rattle.std.specs.List.{slice_get}
 use Rattle.tcl_lang.specs.declared.pred.Line.{Line}
-use Rattle.tcl_lang.specs.Goal.{IsGoalAt, goal_count}
-use Rattle.tcl_lang.specs.Correct.{IsCorrect, IsCounterexample}
+use Rattle.tcl_lang.specs.Correct.{IsCorrect}
 use Rattle.tcl_lang.proofs.Correctness.{no_counterexample_correct}
 use Rattle.tcl_top.specs.declared.answer.Answer.{Answer}
 use Rattle.tcl_top.specs.declared.answer.Answer.TheVariants.{Proved, Refuted}
-use Rattle.tcl_top.specs.Answers.{AreTrueAnswers, IsTrueAnswer, is_refuted, any_refuted}
+use Rattle.tcl_top.specs.Answers.{AreTrueAnswers, is_refuted, any_refuted}
 use Rattle.tcl_top.specs.Inputs.{IsLeastCounterexample}
-use Rattle.tcl_top.specs.Headline.{verdict_status, IsReported, IsLater, IsAnswered, ReadsCorrect}
+use Rattle.tcl_top.specs.Headline.{IsAnswered, ReadsCorrect}
 use Rattle.tcl_top.proofs.Finding.{goal_number_below}
 
 none_left : (a b : Bool) → (a || b) ≡ false → a ≡ false

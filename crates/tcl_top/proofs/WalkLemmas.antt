@@ -1,5 +1,5 @@
 -- Runs line by line, for the walk over inputs.
-use Rattle.std.proofs.Common.{◌≡◌, ◌<◌, ◌≤◌, ◌+◌, ◌&&◌, ◌⊎◌, inl, inr, ℕ, zero, suc, Bool, true, false, cond, List, [], ◌∷◌, ℤ, pos, length, replicate, get_or, refl, ap, sym, subst, ◌∙◌, arith, Option, Some, None}
+use Rattle.std.proofs.Common.{◌≡◌, ◌<◌, ◌≤◌, ◌+◌, ◌&&◌, ◌⊎◌, inl, inr, ℕ, zero, suc, Bool, true, false, cond, List, [], ◌∷◌, ℤ, pos, replicate, get_or, refl, ap, sym, subst, ◌∙◌, arith, Some}
 use Rattle.std.specs.List.{slice_get, list_all}
 use Rattle.std.specs.Option.{is_some}
 use Rattle.tcl_lang.specs.declared.ty.Word.{Word}

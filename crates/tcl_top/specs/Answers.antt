@@ -1,5 +1,5 @@
 -- The answers for the goals of a program, and when they are true.
-use Rattle.std.specs.Prelude.{◌≡◌, ◌<◌, ℕ, ℤ, Bool, true, false, List, length, slice_get, Option, Some, None}
+use Rattle.std.specs.Prelude.{◌≡◌, ℕ, ℤ, Bool, true, false, List, length, slice_get, Some}
 use Rattle.std.specs.List.{list_any}
 use Rattle.tcl_lang.specs.declared.pred.Line.{Line}
 use Rattle.tcl_lang.specs.Goal.{goal_count}

@@ -1,5 +1,5 @@
 -- The inputs of a program over unsigned words, in order: the first value is the most significant.
-use Rattle.std.specs.Prelude.{◌≡◌, ℕ, ◌<◌, ◌⊎◌, ◌/◌, ◌%◌, ◌^◌, ℤ, pos, ◌<ℤ◌, List, [], ◌∷◌}
+use Rattle.std.specs.Prelude.{◌≡◌, ℕ, ◌⊎◌, ◌/◌, ◌%◌, ◌^◌, ℤ, pos, ◌<ℤ◌, List, [], ◌∷◌}
 use Rattle.tcl_lang.specs.declared.ty.Ty.{Ty}
 use Rattle.tcl_lang.specs.declared.pred.Line.{Line}
 use Rattle.tcl_lang.specs.Correct.{IsCounterexample}

@@ -1,9 +1,8 @@
 -- The text of a report: one line for each goal in order, after a refuted one the input, and the verdict as the last line.
-use Rattle.std.specs.Prelude.{ℕ, zero, suc, ◌+◌, ℤ, Bool, true, false, cond, if◌then◌else◌, codes, List, [], ◌∷◌, ◌++◌, slice_index, slice_index_or, slice_get, filter_map, Option, Some, None}
+use Rattle.std.specs.Prelude.{ℕ, ◌+◌, ℤ, cond, if◌then◌else◌, codes, List, [], ◌∷◌, ◌++◌, slice_index, slice_index_or, slice_get, filter_map, Option, Some, None}
 use Rattle.std.specs.Fmt.{decimal, signed_decimal}
-use Rattle.tcl_lang.specs.declared.instr.Op.{Op}
 use Rattle.tcl_lang.specs.declared.pred.Line.{Line}
-use Rattle.tcl_lang.specs.declared.pred.Line.TheVariants.{Input, Pre, Step, Assert, Assume, Cut, Post}
+use Rattle.tcl_lang.specs.declared.pred.Line.TheVariants.{Input, Step, Cut, Post}
 use Rattle.tcl_lang.specs.Line.{is_goal}
 use Rattle.tcl_lang.specs.Program.{NamedProgram, ReadProgram}
 use Rattle.tcl_top.specs.declared.answer.Answer.{Answer}

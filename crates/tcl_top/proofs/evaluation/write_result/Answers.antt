@@ -1,4 +1,4 @@
-use Rattle.std.proofs.Common.{◌≡◌, ℕ, List, [], ◌∷◌, ap, sym, ◌∙◌, arith, get_or, Some, true}
+use Rattle.std.proofs.Common.{[], ◌∷◌, ap, sym, ◌∙◌, Some}
 use Rattle.std.proofs.lemmas.Int.{to_z-of_z}
 use Rattle.std.proofs.lemmas.Option.{slice_get-get_or}
 use Rattle.tcl_lang.specs.Run.{write_all}

@@ -1,5 +1,4 @@
 use Rattle.std.proofs.Common.{◌≡◌, ◌≤◌, ◌++◌, length, take, drop}
-use Rattle.tcl_lang.specs.declared.ty.Ty.{Ty}
 use Rattle.tcl_top.specs.Early as early
 use Rattle.tcl_top.specs.Inputs.{nth_input}
 use Rattle.tcl_top.proofs.inputs.write_input.Given as goal

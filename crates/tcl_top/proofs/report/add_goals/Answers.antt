@@ -1,4 +1,4 @@
-use Rattle.std.proofs.Common.{◌≡◌, ◌≤◌, ◌++◌, length, ◌∙◌, ap, arith}
+use Rattle.std.proofs.Common.{◌++◌, ◌∙◌, ap, arith}
 use Rattle.tcl_top.specs.Report.{goals_text}
 use Rattle.tcl_top.proofs.TextLemmas.{goals_done, nothing_left}
 use Rattle.tcl_top.proofs.report.add_goals.Goals as goal

@@ -1,4 +1,4 @@
-use Rattle.std.proofs.Common.{◌≡◌, ◌<◌, ◌≤◌, ◌+◌, ◌++◌, [], drop, get_or, length, min, pos, sym, ◌∙◌, ap, arith}
+use Rattle.std.proofs.Common.{◌<◌, ◌+◌, ◌++◌, drop, get_or, length, pos, ◌∙◌, ap, arith}
 use Rattle.tcl_top.specs.Report.{value_line, value_lines}
 use Rattle.tcl_top.proofs.TextLemmas.{values_more, values_done, nothing_left}
 use Rattle.tcl_top.proofs.report.add_values.Goals as goal

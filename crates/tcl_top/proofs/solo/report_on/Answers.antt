@@ -1,4 +1,4 @@
-use Rattle.std.proofs.Common.{◌≡◌, sym, subst}
+use Rattle.std.proofs.Common.{sym, subst}
 use Rattle.tcl_top.specs.Early.{IsEarlyProgram}
 use Rattle.tcl_top.proofs.FirstIsEarly.{first_is_early}
 use Rattle.tcl_top.proofs.solo.report_on.Goals as goal

@@ -1,4 +1,4 @@
-use Rattle.std.proofs.Common.{◌≡◌, ◌∙◌, ap, length}
+use Rattle.std.proofs.Common.{◌∙◌, ap, length}
 use Rattle.tcl_lang.specs.Run.{taken_types}
 use Rattle.tcl_top.proofs.Finding.{answers_are_true}
 use Rattle.tcl_top.proofs.walk.answers.Goals as goal

@@ -1,8 +1,5 @@
-use Rattle.std.proofs.Common.{◌≡◌, ◌+◌, ap, sym, ◌∙◌, length, cond, Some, get_or, pos}
-use Rattle.std.specs.Option.{is_some}
-use Rattle.tcl_lang.specs.Line.{is_goal, taken_type}
-use Rattle.tcl_lang.specs.Run.{store_after}
-use Rattle.tcl_top.proofs.WalkLemmas.{Walked, walked_begins, walked_more, stopped}
+use Rattle.std.proofs.Common.{◌+◌, ap, sym, ◌∙◌, cond}
+use Rattle.tcl_top.proofs.WalkLemmas.{walked_begins, walked_more, stopped}
 use Rattle.tcl_top.proofs.walk.first_false.Goals as goal
 
 pub loop-place-init : goal.loop-place-init

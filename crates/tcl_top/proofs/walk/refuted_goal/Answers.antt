@@ -1,4 +1,4 @@
-use Rattle.std.proofs.Common.{◌≡◌, refl, ap, sym, ◌∙◌}
+use Rattle.std.proofs.Common.{refl, ap, sym, ◌∙◌}
 use Rattle.tcl_lang.specs.Line.{is_goal}
 use Rattle.tcl_lang.specs.Goal.{passes}
 use Rattle.tcl_top.proofs.Refuting.{stops_elsewhere, stops_nowhere}

@@ -1,4 +1,4 @@
-use Rattle.std.proofs.Common.{◌≡◌, ◌+◌, length, refl, sym, subst, arith}
+use Rattle.std.proofs.Common.{◌+◌, length, refl, sym, subst, arith}
 use Rattle.tcl_lang.specs.Run.{Fits, taken_types}
 use Rattle.tcl_lang.specs.Correct.{IsCounterexample}
 use Rattle.tcl_top.specs.Inputs.{nth_input}
