@@ -1,5 +1,12 @@
-ghost use Rattle.std.specs.Prelude.{◌≡◌, true};
+ghost use Rattle.std.specs.Prelude.{◌≡◌, ℕ, suc, pos, true, List};
+ghost use Rattle.tcl_lang.specs.declared.ty.Word.{Word};
+ghost use Rattle.tcl_lang.specs.declared.term.Term as plain_term;
+ghost use Rattle.tcl_lang.specs.declared.term.Term.TheViews as term;
 ghost use Rattle.tcl_lang.specs.Operands.{has_operands};
+ghost use Rattle.tcl_lang.specs.Term.{term_value};
+
+mod all_operands;
+mod tables;
 
 use crate::instr::{Args, Atom, Instr, Op, Outs};
 use crate::pred::Line;
@@ -179,4 +186,18 @@ fn redefined_at_another_type(rt: HostRuntime) -> Result<(), AllocError> {
         "after"
     );
     Ok(())
+}
+
+// A power 0 is 1, also of 0 and of a power of 0; every other power of 0 is 0.
+fn zero_is_raised()
+    ensures zeroth { (store : List Word) → term_value store (term.Pow (plain_term.Num (pos 0)) 0) ≡ pos 1 }
+    ensures others { (store : List Word) (k : ℕ) → term_value store (term.Pow (plain_term.Num (pos 0)) (suc k)) ≡ pos 0 }
+    ensures zeroth_of_zeroth { (store : List Word) → term_value store (term.Pow (term.Pow (plain_term.Num (pos 0)) 0) 0) ≡ pos 1 }
+    ensures zeroth_of_third { (store : List Word) → term_value store (term.Pow (term.Pow (plain_term.Num (pos 0)) 3) 0) ≡ pos 1 }
+    ensures zeroth_of_difference { (store : List Word) → term_value store (term.Pow (term.Sub (plain_term.Var 0) (plain_term.Var 0)) 0) ≡ pos 1 }
+{}
+
+#[test]
+fn powers_of_zero(_rt: HostRuntime) {
+    zero_is_raised();
 }
