@@ -1,4 +1,5 @@
 pub mod Powers
 pub mod Ends
 pub mod LineReasons
+pub mod Parts
 pub mod Places

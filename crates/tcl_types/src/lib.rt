@@ -14,3 +14,6 @@ pub use fault::TypeFault;
 pub use program::check;
 pub use reasons::reason_at;
 pub use table::Types;
+
+#[cfg(test)]
+mod tests;
