@@ -10,6 +10,7 @@ use crate::element::{norm_of_terms, push_copy, push_term};
 use crate::{Mono, Unknown};
 use std::alloc::{AllocError, Global};
 use std::marker::Model;
+use tcl_list::Copies;
 use tcl_ring::{Ring, Whole};
 
 /// Why there is no polynomial.
@@ -156,6 +157,14 @@ pub fn norm(a: &Poly<Whole>) -> u128
 }
 
 impl<R: Ring> Poly<R> {
+    /// The polynomial with these terms; it takes no memory. It is over a ring where they are in decreasing order and no
+    /// coefficient is 0.
+    pub fn of(terms: Vec<(Mono, R::Elem)>) -> Self
+        ensures { result ≡ terms.items }
+    {
+        Poly { terms }
+    }
+
     pub(crate) fn allocator(&self) -> Global {
         *self.terms.allocator()
     }
@@ -169,5 +178,11 @@ impl<R: Ring> Poly<R> {
             push_copy(&mut copied, term)?;
         }
         Ok(Poly { terms: copied })
+    }
+}
+
+impl<R: Ring> Copies for Poly<R> {
+    fn copy_in(&self, _alloc: Global) -> Result<Self, AllocError> {
+        self.copy()
     }
 }

@@ -1,0 +1,15 @@
+pub mod Definitions
+pub mod Equated
+pub mod Parts
+pub mod Substitution
+pub mod Fits
+pub mod Reduction
+pub mod Step
+pub mod Remainder
+pub mod Laws
+pub mod Answer
+pub mod Inverse
+pub mod CofactorSum
+pub mod Row
+pub mod Multiple
+pub mod Membership
