@@ -1,5 +1,5 @@
 -- The numbers of tokens are in range, and their types are types.
-use Rattle.std.proofs.Common.{◌≡◌, ℕ, zero, suc, Bool, true, false, ◌&&◌, List, [], ◌∷◌, take, refl, ap, ◌∙◌, arith}
+use Rattle.std.proofs.Common.{◌≡◌, ℕ, zero, suc, Bool, true, false, ◌&&◌, List, [], ◌∷◌, take, refl, ap, subst, ◌∙◌, arith}
 use Rattle.std.proofs.lemmas.Bool.Decides.{nat_tests}
 use Rattle.std.specs.Prelude.{if◌then◌else◌, nat_le, nat_lt, ◌==◌, ◌^◌, pos, Option, Some, None, length, slice_index}
 use Rattle.std.specs.List.{list_all, prefix_len}
@@ -13,7 +13,7 @@ use Rattle.tcl_text.specs.declared.token.Raw.TheVariants as raw
 use Rattle.tcl_text.specs.declared.token.Cut.{Cut}
 use Rattle.tcl_text.specs.declared.token.Keyword.{Keyword}
 use Rattle.tcl_text.specs.declared.token.Token.{Token}
-use Rattle.tcl_text.specs.Tokens.{is_blank, is_digit, is_word_start, is_word_byte, value_of, word_cut, number_cut, symbol_cut, symbol_here, long_symbol, short_symbol, next_byte, cut_of, more_of, attach, raws_from}
+use Rattle.tcl_text.specs.Tokens.{is_blank, is_digit, is_word_start, is_word_byte, value_of, word_cut, number_cut, symbol_cut, symbol_here, long_symbol, short_symbol, next_byte, cut_of, more_of, attach, raws_from, raws_of}
 use Rattle.tcl_text.specs.Words.{checked_type, short_type, long_type, type_of_word, sign_of_byte, meaning_from, meaning_of, op_of_word, keyword_of_word}
 use Rattle.tcl_text.specs.Numbering.{token_of, names_after_token, word_token, tokens_of}
 use Rattle.tcl_text.proofs.Shapes.{is_fit, Fit}
@@ -134,3 +134,7 @@ tokens_fit names (r ∷ raws) p =
     ap (λ x. x && list_all is_fit (tokens_of (names_after_token names r) raws))
     (token_fit names r (first_fit (is_fit_raw r) (list_all is_fit_raw raws) p))
     ∙ tokens_fit (names_after_token names r) raws (rest_fit (is_fit_raw r) (list_all is_fit_raw raws) p)
+
+-- the tokens of a line
+pub line_fit : (line : List ℕ) (raws : List Raw) (names : List (List ℕ)) → raws_of line ≡ Some raws → Fit (tokens_of names raws)
+line_fit line raws names e = tokens_fit names raws (subst FitRaws e (raws_fit 0 line))
