@@ -1,3 +1,6 @@
-pub mod FirstProgram
-pub mod FirstText
-pub mod FirstReading
+pub mod Readers
+pub mod StatementReaders
+pub mod TextSteps
+pub mod TextProgress
+pub mod TextLimits
+pub mod TextRefusals

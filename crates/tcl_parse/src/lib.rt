@@ -1,16 +1,10 @@
-//! Reads the text of a program: so far the texts of the first form, whose programs can be walked input by input.
+//! Reads the text of a program, and refuses every other text with its first fault.
 #![tactic(auto)]
 
-mod checking;
-mod first;
-mod form;
-mod forms;
-mod names;
-mod pieces;
-mod reading;
-mod words;
+mod fault;
+mod statement;
+mod text;
+mod tree;
 
-pub use first::{first_text_is_one, parse_first};
-
-#[cfg(test)]
-mod tests;
+pub use fault::ParseFault;
+pub use text::parser::parse;

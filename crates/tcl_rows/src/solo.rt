@@ -1,4 +1,4 @@
-//! `solo_run` from the bytes that it reads to the bytes that it writes. The answers were worked out by hand.
+//! `solo_run` from the bytes that it reads to the bytes that it writes. The answers were computed by a second implementation of the language.
 
 use std::alloc::{AllocError, Global};
 use std::process::Abort;
@@ -81,19 +81,51 @@ fn reports(rt: HostRuntime) -> Result<(), AllocError> {
             1,
             "goal 0 line 2 assert refuted\nin x 100\ngoal 1 line 3 assert proved\nrefuted\n",
         ),
-        // The first value is the most significant: the least input has the least x.
         (
             "in u4 x\nin u4 y\npre rng y < 9@u4\nassert rng y < 8@u4\nend\n",
             1,
             "goal 0 line 4 assert refuted\nin x 0\nin y 8\nrefuted\n",
         ),
-        // A name that is defined again, and 12 bits of inputs.
         (
             "in u8 x\nin u4 z\npre rng x < 10@u8\nadd u8 x x x\nassert rng x < 19@u8\nend\n",
             0,
             "goal 0 line 4 exact proved\ngoal 1 line 5 assert proved\nverified\n",
         ),
         ("end\n", 0, "verified\n"),
+        ("end", 0, "verified\n"),
+        ("end\r\n", 0, "verified\n"),
+        ("  end\t# nothing\n", 0, "verified\n"),
+        (
+            "# head\r\n\r\nin u8  x\n\n\tsub u8 y x x # low\npost rng y=0@u8\nend",
+            0,
+            "goal 0 line 5 exact proved\ngoal 1 line 6 post proved\nverified\n",
+        ),
+        (
+            "in u8 x\nsub u8 y x 3@u8\nend\n",
+            1,
+            "goal 0 line 2 exact refuted\nin x 0\nrefuted\n",
+        ),
+        (
+            "in u8 x\npre rng x >= 3@u8\nsub u8 y x 3@u8\nmov u8 z y\npost rng z <= 252@u8\npost rng z != 7@u8\nend\n",
+            1,
+            "goal 0 line 3 exact proved\ngoal 1 line 5 post proved\ngoal 2 line 6 post refuted\nin x 10\nrefuted\n",
+        ),
+        (
+            "in u4 x\nin u8 y\nmov u4 y x\nassert rng y = x\nassert rng x > 0@u4\nend\n",
+            1,
+            "goal 0 line 4 assert proved\ngoal 1 line 5 assert refuted\nin x 0\nin y 0\nrefuted\n",
+        ),
+        (
+            "in u8 end_\nin u4 _2\nassert rng 0@u1 >= 1@u1\npost rng end_ < 00255@u8\nend\n",
+            1,
+            "goal 0 line 3 assert refuted\nin end_ 0\nin _2 0\ngoal 1 line 4 post proved\nrefuted\n",
+        ),
+        ("in u8 x # \x01\nend\n", 0, "verified\n"),
+        (
+            "in u8 x\nassert rng [x = x]\nend\n",
+            0,
+            "goal 0 line 2 assert proved\nverified\n",
+        ),
     ];
     for (text, status, written) in cases {
         expect(&rt, alloc, &plain(text), status, written)?;
@@ -102,46 +134,333 @@ fn reports(rt: HostRuntime) -> Result<(), AllocError> {
 }
 
 #[test]
-fn texts_that_are_not_of_the_first_form(rt: HostRuntime) -> Result<(), AllocError> {
+fn texts_outside_the_grammar(rt: HostRuntime) -> Result<(), AllocError> {
     let alloc = rt.alloc();
-    let texts = [
-        "",
-        "end",
-        "end\r\n",
-        "in u8  x\nend\n",
-        "in u8 x\nin u5 y\nend\n",
-        "in u9 x\nend\n",
-        "in s8 x\nend\n",
-        "in u8 x\nassert rng x <= 9@u8\nend\n",
-        "in u8 x\nassert rng x < 256@u8\nend\n",
-        "in u8 x\nassert rng y < 9@u8\nend\n",
-        "in u8 x\nassert rng x < 9@u4\nend\n",
-        "in u8 x\nsub u8 y x x\nend\n",
-        "in u8 x # low\nend\n",
-        "in u8 end\nend\n",
-        "end\nend\n",
+    let cases = [
+        ("", 3, "refused shape line 1\n"),
+        ("in u8 x\n", 3, "refused shape line 2\n"),
+        ("end\nin u8 x\n", 3, "refused shape line 2\n"),
+        ("end\nend\n", 3, "refused shape line 2\n"),
+        (
+            "in u8 x\npre rng [x < 1@u8\nend\n",
+            3,
+            "refused text line 2\n",
+        ),
+        (
+            "in u8 x\npost alg x**1025 = 0\nend\n",
+            9,
+            "refused limit exponent\n",
+        ),
+        ("in u8 x\r\r\nend\n", 3, "refused text line 1\n"),
+        (
+            "in u8 x\nassert rng x <= 9@u8 9\nend\n",
+            3,
+            "refused text line 2\n",
+        ),
+        ("in u8 end\nend\n", 3, "refused text line 1\n"),
+        ("in u65 x\nend\n", 3, "refused text line 1\n"),
+        ("in s1 x\nend\n", 3, "refused text line 1\n"),
+        ("in u8 x\nadd u8 y x\nend\n", 3, "refused text line 2\n"),
+        (
+            "in u8 x\npre rng x < -0@u8\nend\n",
+            3,
+            "refused text line 2\n",
+        ),
+        (
+            "post rng true\nassert rng true\nend\n",
+            3,
+            "refused shape line 2\n",
+        ),
+        (
+            "in u8 x\nassert rng true\nin u8 y\nend\n",
+            3,
+            "refused shape line 3\n",
+        ),
+        ("in u8 x$\nend\n", 3, "refused text line 1\n"),
+        (
+            "in u8 x\nassert rng x < 170141183460469231731687303715884105728@u8\nend\n",
+            3,
+            "refused text line 2\n",
+        ),
+        (
+            "in u8 x\nassert rng x < 1@u8\n\n\n",
+            3,
+            "refused shape line 5\n",
+        ),
     ];
-    for text in texts {
-        expect(&rt, alloc, &plain(text), 10, "refused later line 1\n")?;
+    for (text, status, written) in cases {
+        expect(&rt, alloc, &plain(text), status, written)?;
     }
     Ok(())
 }
 
 #[test]
-fn sixty_four_lines_are_read_and_one_more_is_not(rt: HostRuntime) -> Result<(), AllocError> {
+fn ill_typed_texts(rt: HostRuntime) -> Result<(), AllocError> {
     let alloc = rt.alloc();
-    for (asserts, status) in [(62, 0), (63, 10)] {
-        let mut text = String::new(alloc);
-        text.push_str("in u1 x\n")?;
-        for _ in 0..asserts {
-            text.push_str("assert rng 0@u1 < 1@u1\n")?;
-        }
-        text.push_str("end\n")?;
-        let bytes = Vec::from_slice(alloc, text.as_str().as_bytes())?;
-        let mut source = MemorySource::new(bytes, 64, Vec::new(alloc));
-        let mut sink = MemorySink::new(alloc, 4096, 64, Vec::new(alloc))?;
-        let done = solo_run(alloc, &[], &mut source, &mut sink);
-        assert_eq!(&rt; done.status, status, "with {asserts} assertions");
+    let cases = [
+        (
+            "in u8 x\nadd u8 y x 256@u8\nadd u8 z y 300@u8\nend\n",
+            4,
+            "refused type line 2 literal\n",
+        ),
+        (
+            "in u8 x\npost alg x = 0 mod 0\nend\n",
+            4,
+            "refused type line 2 modulus\n",
+        ),
+        (
+            "in s8 x\nadds s8 c y x x\nend\n",
+            4,
+            "refused type line 2 kind\n",
+        ),
+        (
+            "in u8 x\nshl u8 y x 8\nend\n",
+            4,
+            "refused type line 2 amount\n",
+        ),
+        (
+            "in u8 x\nassert rng y < 9@u8\nend\n",
+            4,
+            "refused type line 2 undefined\n",
+        ),
+        (
+            "in u8 x\nassert rng x < 9@u4\nend\n",
+            4,
+            "refused type line 2 mismatch\n",
+        ),
+        (
+            "in u8 x\nin u8 x\nend\n",
+            4,
+            "refused type line 2 repeated\n",
+        ),
+        (
+            "in u8 x\nassert rng x < 256@u8\nend\n",
+            4,
+            "refused type line 2 literal\n",
+        ),
+        (
+            "in s8 x\ncut rng x < 0@s8\nadd u8 y x x\nend\n",
+            4,
+            "refused type line 3 mismatch\n",
+        ),
+    ];
+    for (text, status, written) in cases {
+        expect(&rt, alloc, &plain(text), status, written)?;
+    }
+    Ok(())
+}
+
+#[test]
+fn texts_that_the_walk_does_not_know(rt: HostRuntime) -> Result<(), AllocError> {
+    let alloc = rt.alloc();
+    let cases = [
+        ("in u8 x\nin u5 y\nend\n", 10, "refused later line 2\n"),
+        ("in u9 x\nend\n", 10, "refused later line 1\n"),
+        ("in s8 x\nend\n", 10, "refused later line 1\n"),
+        (
+            "in u8 x\nassert rng x = 9@u8 && true\nend\n",
+            10,
+            "refused later line 2\n",
+        ),
+        ("in u8 x\nmul u8 y x x\nend\n", 10, "refused later line 2\n"),
+        (
+            "in u8 x\n\nassume rng x = 1@u8\nend\n",
+            10,
+            "refused later line 3\n",
+        ),
+        (
+            "in u8 x\ncut rng x = x\nend\n",
+            10,
+            "refused later line 2\n",
+        ),
+        (
+            "in u8 x\npost alg x = x\nend\n",
+            10,
+            "refused later line 2\n",
+        ),
+        (
+            "in u8 x\nassert rng -x = x\nend\n",
+            10,
+            "refused later line 2\n",
+        ),
+        ("nondet u8 x\nend\n", 10, "refused later line 1\n"),
+        (
+            "in u8 x\nmov u8 y x\ncast u16 z y\nend\n",
+            10,
+            "refused later line 3\n",
+        ),
+        (
+            "in u8 x\nassert rng 1@u9 = 1@u9\nend\n",
+            10,
+            "refused later line 2\n",
+        ),
+    ];
+    for (text, status, written) in cases {
+        expect(&rt, alloc, &plain(text), status, written)?;
+    }
+    Ok(())
+}
+
+/// A text of a line, so many times another, and a line behind them.
+fn repeated(
+    alloc: Global,
+    first: &str,
+    line: &str,
+    count: u32,
+    last: &str,
+) -> Result<String, AllocError> {
+    let mut text = String::new(alloc);
+    text.push_str(first)?;
+    for _ in 0..count {
+        text.push_str(line)?;
+    }
+    text.push_str(last)?;
+    Ok(text)
+}
+
+#[test]
+fn limits_and_their_edges(rt: HostRuntime) -> Result<(), AllocError> {
+    let alloc = rt.alloc();
+    let first = "in u1 x\n";
+    let cases = [
+        // The walk knows 64 lines.
+        (
+            first,
+            "assert rng 0@u1 < 1@u1\n",
+            64,
+            "end\n",
+            10,
+            "refused later line 65\n",
+        ),
+        (
+            first,
+            "mov u1 x x\n",
+            4096,
+            "end\n",
+            10,
+            "refused later line 65\n",
+        ),
+        (
+            first,
+            "mov u1 x x\n",
+            4097,
+            "end\n",
+            9,
+            "refused limit instructions\n",
+        ),
+        (
+            "",
+            "nondet u1 x\nmov u1 x x\n",
+            2048,
+            "end\n",
+            10,
+            "refused later line 1\n",
+        ),
+        (
+            "",
+            "adds u1 c x 0@u1 0@u1\n",
+            4096,
+            "end\n",
+            10,
+            "refused later line 1\n",
+        ),
+        (
+            first,
+            "adds u1 c x 0@u1 0@u1\n",
+            4096,
+            "end\n",
+            9,
+            "refused limit variables\n",
+        ),
+        (
+            first,
+            "assert rng true\n",
+            4096,
+            "end\n",
+            10,
+            "refused later line 2\n",
+        ),
+        (
+            first,
+            "assert rng true\n",
+            4097,
+            "end\n",
+            9,
+            "refused limit goals\n",
+        ),
+        // The limits in their order, a line's before those of the whole program.
+        (
+            "",
+            "add u1 x 0@u1 0@u1\n",
+            4097,
+            "end\n",
+            9,
+            "refused limit instructions\n",
+        ),
+        (
+            "",
+            "add u1 x 0@u1 0@u1\n",
+            4097,
+            "in u1 x\n",
+            3,
+            "refused shape line 4098\n",
+        ),
+        (
+            "in u1 x\nassert rng ",
+            "[",
+            65,
+            "\nend\n",
+            9,
+            "refused limit nesting\n",
+        ),
+        (
+            "in u1 x\nassert rng ",
+            "[",
+            64,
+            "\nend\n",
+            3,
+            "refused text line 2\n",
+        ),
+        (
+            "in u1 x\npost alg 0 = x",
+            " + x",
+            4097,
+            "\nend\n",
+            9,
+            "refused limit operators\n",
+        ),
+        (
+            "in u1 x\npost alg 0 = x",
+            " + x",
+            4096,
+            "\nend\n",
+            10,
+            "refused later line 2\n",
+        ),
+        (
+            "end\n",
+            "#123456789ABCDE\n",
+            65_535,
+            "#12345678901",
+            0,
+            "verified\n",
+        ),
+        (
+            "end\n",
+            "#123456789ABCDE\n",
+            65_535,
+            "#123456789012",
+            9,
+            "refused limit bytes\n",
+        ),
+    ];
+    for (first, line, count, last, status, written) in cases {
+        let text = repeated(alloc, first, line, count, last)?;
+        let case = Case {
+            cut: 65_536,
+            ..plain(text.as_str())
+        };
+        expect(&rt, alloc, &case, status, written)?;
     }
     Ok(())
 }

@@ -5,5 +5,5 @@ pub mod Refuting
 pub mod Numbering
 pub mod Finding
 pub mod TextLemmas
-pub mod FirstIsEarly
+pub mod EarlyLemmas
 pub mod Verdict

@@ -57,11 +57,16 @@ status_some false e = absurd (omega arith)
 -- status 0 of a whole text
 pub answered_correct : (bytes : List ℕ) (status : ℕ) (text : List ℕ) → IsAnswered bytes status text → status ≡ 0 → ReadsCorrect bytes
 answered_correct bytes status text answered zero_is = elim answered [
-  | inl r ↦ record {
+  | inl a ↦ absurd (omega (arith, a.status_is, zero_is))
+  | inr (inl a) ↦ absurd (omega (arith, a.status_is, zero_is))
+  | inr (inr (inl a)) ↦ absurd (omega (arith, a.status_is, zero_is))
+  | inr (inr (inr (inl a))) ↦ absurd (omega (arith, a.status_is, zero_is))
+  | inr (inr (inr (inr (inl a)))) ↦ absurd (omega (arith, a.status_is, zero_is))
+  | inr (inr (inr (inr (inr r)))) ↦ record {
     program = r.program;
-    reads = r.reads;
+    accepted = r.accepted;
+    typed = r.typed;
     correct = all_proved_correct _ r.program.program.lines r.answers r.are_true
         (status_none (any_refuted r.answers) (sym r.status_is ∙ zero_is));
   }
-  | inr l ↦ absurd (omega (arith, l.status_is, zero_is))
 ]

@@ -1,5 +1,5 @@
 -- Programs whose inputs are all walked: a few lines over short unsigned words.
-use Rattle.std.specs.Prelude.{◌≡◌, ◌<◌, ◌≤◌, ◌+◌, ℕ, nat_le, Bool, true, false, not, ◌&&◌, List, [], ◌∷◌, length}
+use Rattle.std.specs.Prelude.{◌≡◌, ◌<◌, ◌≤◌, ◌+◌, ℕ, nat_le, Bool, true, false, not, ◌&&◌, List, [], ◌∷◌, length, take, Option, Some, None}
 use Rattle.std.specs.List.{list_all}
 use Rattle.tcl_lang.specs.declared.ty.Ty.{Ty}
 use Rattle.tcl_lang.specs.declared.instr.Atom.{Atom}
@@ -16,6 +16,7 @@ use Rattle.tcl_lang.specs.declared.pred.Pred.TheVariants.{Alg, Rng}
 use Rattle.tcl_lang.specs.declared.pred.Line.{Line}
 use Rattle.tcl_lang.specs.declared.pred.Line.TheVariants.{Input, Pre, Step, Assert, Post}
 use Rattle.tcl_lang.specs.Program.{NamedProgram}
+use Rattle.tcl_lang.specs.Line.{taken_type}
 use Rattle.tcl_lang.specs.Run.{taken_types}
 use Rattle.tcl_lang.specs.Typing.{IsWellTyped}
 
@@ -70,9 +71,27 @@ unfoldable pub total_width : List Ty → ℕ
 total_width [] = 0
 total_width (T ∷ types) = T.width + total_width types
 
--- a well typed program of such lines, of which the inputs have at most 12 bits
+-- the width of the value that a line takes from the input
+abbrev pub width_of_taken : Option Ty → ℕ
+width_of_taken None = 0
+width_of_taken (Some T) = T.width
+
+abbrev pub taken_width : Line → ℕ
+taken_width l = width_of_taken (taken_type l)
+
+-- at most 64 lines of these kinds, of which the inputs have at most 12 bits
+pub record AreEarly (lines : List Line) : Type 0 where
+  pub forms : list_all is_early_line lines ≡ true
+  pub few : length lines ≤ 64
+  pub narrow : total_width (taken_types lines) ≤ 12
+
+-- the line of place k is the first with which this is no longer so
+pub record IsFirstOutside (lines : List Line) (k : ℕ) : Type 0 where
+  pub within : k < length lines
+  pub before : AreEarly (take k lines)
+  pub outside : AreEarly (take (k + 1) lines) → ⊥
+
+-- a well typed program of such lines
 pub record IsEarlyProgram (p : NamedProgram) : Type 0 where
-  pub forms : list_all is_early_line p.lines ≡ true
-  pub few : length p.lines < 64
-  pub narrow : total_width (taken_types p.lines) ≤ 12
+  pub early : AreEarly p.lines
   pub typed : IsWellTyped (length p.names) p.lines

@@ -8,7 +8,7 @@ use Rattle.tcl_top.specs.declared.answer.Answer.{Answer}
 use Rattle.tcl_top.specs.declared.answer.Answer.TheVariants.{Proved, Refuted}
 use Rattle.tcl_lang.specs.Run.{taken_types}
 use Rattle.tcl_lang.specs.Shape.{in_stages}
-use Rattle.tcl_top.specs.Early.{is_early_line, total_width}
+use Rattle.tcl_top.specs.Early.{AreEarly}
 use Rattle.tcl_top.specs.Inputs.{nth_input}
 
 -- input m refutes goal i
@@ -36,9 +36,7 @@ noted found i n = slice_set found i (first_of (slice_index_or found i None) n)
 
 -- what the walk needs of a program's lines
 pub record IsWalkable (lines : List Line) : Type 0 where
-  pub forms : list_all is_early_line lines ≡ true
-  pub few : length lines < 64
-  pub narrow : total_width (taken_types lines) ≤ 12
+  pub early : AreEarly lines
   pub stages : in_stages 0 lines ≡ true
 
 -- the answer for a goal of this finding

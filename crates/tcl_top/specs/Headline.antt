@@ -1,13 +1,22 @@
 -- What the top call answers for the bytes that it reads: a status and a text.
-use Rattle.std.specs.Prelude.{◌≡◌, ◌⊎◌, ◌<◌, ◌≤◌, ◌+◌, ℕ, ℤ, Bool, true, false, if◌then◌else◌, ◌==◌, ◌||◌, codes, List, [], ◌∷◌, ◌++◌, length, take, Option}
+use Rattle.std.specs.Prelude.{◌≡◌, ◌⊎◌, ◌<◌, ◌≤◌, ◌+◌, ℕ, ℤ, Bool, true, false, if◌then◌else◌, ◌==◌, ◌||◌, codes, List, [], ◌∷◌, ◌++◌, length, take, slice_get, Option, Some}
+use Rattle.std.specs.Fmt.{decimal}
 use Rattle.tcl_io.specs.Source.{then_left, IsEmptied}
 use Rattle.tcl_io.specs.Sink.{and_then}
 use Rattle.tcl_lang.specs.Program.{ReadProgram}
 use Rattle.tcl_lang.specs.Correct.{IsCorrect}
-use Rattle.tcl_parse.specs.FirstText.{IsFirstText}
+use Rattle.tcl_lang.specs.Limit.{KeepsLimits}
+use Rattle.tcl_lang.specs.declared.reason.Reason.{Reason}
+use Rattle.tcl_text.specs.declared.fault.Limit.{Limit}
+use Rattle.tcl_text.specs.declared.fault.LineFault.TheVariants as line_fault
+use Rattle.tcl_text.specs.declared.fault.TextFault.TheVariants as text_fault
+use Rattle.tcl_text.specs.Reading.{Reads, FirstFault}
+use Rattle.tcl_parse.specs.TextRefusals.{Exceeds}
+use Rattle.tcl_types.specs.Fault.{IsTyped, IsIll}
+use Rattle.tcl_top.specs.Words.{word_of_limit, word_of_reason}
+use Rattle.tcl_top.specs.Early.{AreEarly, IsFirstOutside}
 use Rattle.tcl_top.specs.declared.answer.Answer.{Answer}
 use Rattle.tcl_top.specs.Answers.{AreTrueAnswers, any_refuted}
-use Rattle.tcl_top.specs.Inputs.{IsLeastCounterexample}
 use Rattle.tcl_top.specs.Report.{report_of}
 
 -- the greatest number of bytes of a text
@@ -18,34 +27,90 @@ byte_limit = 1048576
 abbrev pub usage_text : List ℕ
 usage_text = codes "refused usage" ++ 10 ∷ []
 
-abbrev pub limit_text : List ℕ
-limit_text = codes "refused limit bytes" ++ 10 ∷ []
+abbrev pub text_text : ℕ → List ℕ
+text_text number = codes "refused text line " ++ (decimal number ++ 10 ∷ [])
 
-abbrev pub later_text : List ℕ
-later_text = codes "refused later line 1" ++ 10 ∷ []
+abbrev pub shape_text : ℕ → List ℕ
+shape_text number = codes "refused shape line " ++ (decimal number ++ 10 ∷ [])
+
+abbrev pub limit_text : List ℕ → List ℕ
+limit_text word = codes "refused limit " ++ (word ++ 10 ∷ [])
+
+abbrev pub type_text : ℕ → Reason → List ℕ
+type_text number reason = codes "refused type line " ++ (decimal number ++ (codes " " ++ (word_of_reason reason ++ 10 ∷ [])))
+
+abbrev pub later_text : ℕ → List ℕ
+later_text number = codes "refused later line " ++ (decimal number ++ 10 ∷ [])
 
 -- status 1 where some goal is refuted, and 0 where none is
 abbrev pub verdict_status : List Answer → ℕ
 verdict_status answers = if any_refuted answers then 1 else 0
 
--- the bytes are a program, and this is the status and the text of a report on it of which every line is true
+-- the text reads as the program, which keeps the limits
+pub record IsAccepted (bytes : List ℕ) (program : ReadProgram) : Type 0 where
+  pub reads : Reads bytes program
+  pub keeps : KeepsLimits program.program.lines
+
+-- the first faulty line is outside the grammar
+pub record IsOutsideGrammar (bytes : List ℕ) (status : ℕ) (text : List ℕ) : Type 0 where
+  pub number : ℕ
+  pub first : FirstFault bytes (text_fault.Line number line_fault.Text)
+  pub status_is : status ≡ 3
+  pub text_is : text ≡ text_text number
+
+-- the first faulty line is out of its place
+pub record IsOutOfPlace (bytes : List ℕ) (status : ℕ) (text : List ℕ) : Type 0 where
+  pub number : ℕ
+  pub first : FirstFault bytes (text_fault.Shape number)
+  pub status_is : status ≡ 3
+  pub text_is : text ≡ shape_text number
+
+-- a limit other than that of bytes is exceeded
+pub record IsBeyondLimit (bytes : List ℕ) (status : ℕ) (text : List ℕ) : Type 0 where
+  pub which : Limit
+  pub beyond : Exceeds bytes which
+  pub status_is : status ≡ 9
+  pub text_is : text ≡ limit_text (word_of_limit which)
+
+-- the text is accepted, and this is the first line that is ill-typed
+pub record IsIllTyped (bytes : List ℕ) (status : ℕ) (text : List ℕ) : Type 0 where
+  pub program : ReadProgram
+  pub accepted : IsAccepted bytes program
+  pub number : ℕ
+  pub reason : Reason
+  pub ill : IsIll program number reason
+  pub status_is : status ≡ 4
+  pub text_is : text ≡ type_text number reason
+
+-- the text is that of a well typed program, and this is the first line that the walk over inputs does not know
+pub record IsLater (bytes : List ℕ) (status : ℕ) (text : List ℕ) : Type 0 where
+  pub program : ReadProgram
+  pub accepted : IsAccepted bytes program
+  pub typed : IsTyped program
+  pub place : ℕ
+  pub outside : IsFirstOutside program.program.lines place
+  pub number : ℕ
+  pub at : slice_get program.places place ≡ Some number
+  pub status_is : status ≡ 10
+  pub text_is : text ≡ later_text number
+
+-- the text is that of a well typed program, all lines are known, and this is the status and the text of a report on it of
+-- which every line is true
 pub record IsReported (bytes : List ℕ) (status : ℕ) (text : List ℕ) : Type 0 where
   pub program : ReadProgram
-  pub reads : IsFirstText bytes program
+  pub accepted : IsAccepted bytes program
+  pub typed : IsTyped program
+  pub early : AreEarly program.program.lines
   pub answers : List Answer
   pub are_true : AreTrueAnswers (length program.program.names) program.program.lines answers
   pub status_is : status ≡ verdict_status answers
   pub text_is : text ≡ report_of program answers
 
--- the bytes are no program of the first form
-pub record IsLater (bytes : List ℕ) (status : ℕ) (text : List ℕ) : Type 0 where
-  pub reads : (program : ReadProgram) → IsFirstText bytes program → ⊥
-  pub status_is : status ≡ 10
-  pub text_is : text ≡ later_text
-
 -- the status and the text for a text that was read to its end
 abbrev pub IsAnswered : List ℕ → ℕ → List ℕ → Type 0
-IsAnswered bytes status text = IsReported bytes status text ⊎ IsLater bytes status text
+IsAnswered bytes status text =
+    IsOutsideGrammar bytes status text ⊎ IsOutOfPlace bytes status text ⊎ IsBeyondLimit bytes status text
+    ⊎ IsIllTyped bytes status text ⊎ IsLater bytes status text ⊎ IsReported bytes status text
 
 -- the source was read to its end, and these are the bytes that it gave
 pub record IsReadWhole (left left_new : Option (List ℕ)) (given given_new : ℕ) (bytes : List ℕ) : Type 0 where
@@ -65,9 +130,9 @@ pub record IsLimitRow (words given given_new status : ℕ) (text : List ℕ) : T
   pub no_word : words ≡ 0
   pub beyond : given + byte_limit < given_new
   pub status_is : status ≡ 9
-  pub text_is : text ≡ limit_text
+  pub text_is : text ≡ limit_text (codes "bytes")
 
--- a whole text was read: its report, or the refusal of a text that is not of the first form
+-- a whole text was read: its report, or its refusal
 pub record IsAnswerRow (words : ℕ) (left left_new : Option (List ℕ)) (given given_new status : ℕ) (text : List ℕ) : Type 0 where
   pub no_word : words ≡ 0
   pub bytes : List ℕ
@@ -107,12 +172,13 @@ pub record DeliversRow (words : ℕ) (left left_new : Option (List ℕ)) (given 
 -- the program that was read is correct
 pub record ReadsCorrect (bytes : List ℕ) : Type 0 where
   pub program : ReadProgram
-  pub reads : IsFirstText bytes program
+  pub accepted : IsAccepted bytes program
+  pub typed : IsTyped program
   pub correct : IsCorrect (length program.program.names) program.program.lines
 
 -- the statuses that the top call answers
 abbrev pub is_status : ℕ → Bool
-is_status n = n == 0 || n == 1 || n == 5 || n == 6 || n == 7 || n == 8 || n == 9 || n == 10
+is_status n = n == 0 || n == 1 || n == 3 || n == 4 || n == 5 || n == 6 || n == 7 || n == 8 || n == 9 || n == 10
 
 -- the statuses that write nothing, and those that come with a text or a part of one
 abbrev pub is_silent : ℕ → Bool
@@ -129,19 +195,3 @@ pub record IsVerified (left left_new : Option (List ℕ)) (given given_new : ℕ
   pub bytes : List ℕ
   pub read : IsReadWhole left left_new given given_new bytes
   pub correct : ReadsCorrect bytes
-
--- a whole text was read, and some goal of the program has a least input that refutes it
-pub record IsRefuted (left left_new : Option (List ℕ)) (given given_new : ℕ) : Type 0 where
-  pub bytes : List ℕ
-  pub read : IsReadWhole left left_new given given_new bytes
-  pub program : ReadProgram
-  pub reads : IsFirstText bytes program
-  pub goal : ℕ
-  pub input : List ℤ
-  pub refutes : IsLeastCounterexample (length program.program.names) program.program.lines input goal
-
--- a whole text was read, and it is not of the first form
-pub record IsRefusedLater (left left_new : Option (List ℕ)) (given given_new : ℕ) : Type 0 where
-  pub bytes : List ℕ
-  pub read : IsReadWhole left left_new given given_new bytes
-  pub reads : (program : ReadProgram) → IsFirstText bytes program → ⊥

@@ -1,3 +1,4 @@
+pub mod Words
 pub mod Early
 pub mod Inputs
 pub mod Found

@@ -11,7 +11,7 @@ use std::alloc::{AllocError, Global};
 use tcl_lang::{Line, Op, Ty};
 
 /// The type of the value that a line takes from the input.
-fn taken_type(line: &Line) -> Option<Ty>
+pub(crate) fn taken_type(line: &Line) -> Option<Ty>
     ensures { result ≡ line_words.taken_type line.now }
 {
     match line {

@@ -2,11 +2,16 @@
 #![tactic(auto)]
 
 mod answer;
+mod early;
 mod evaluation;
 mod inputs;
+mod refusal;
 mod report;
 mod solo;
 mod walk;
 
 pub use answer::Answer;
 pub use solo::{Done, solo_run};
+
+#[cfg(test)]
+mod tests;

@@ -9,21 +9,21 @@ ghost use Rattle.tcl_top.specs.Report as report_words;
 use crate::answer::Answer;
 use crate::walk::is_goal;
 use std::alloc::{AllocError, Global};
-use tcl_lang::{Line, Names, Parsed, Program};
+use tcl_lang::{Line, Names, Program, Typed};
 use tcl_list::Listing;
 
 /// A text of bytes that grows.
 type Text = Vec<u8>;
 
 /// Adds bytes to a text.
-fn add(text: &mut Text, bytes: &[u8]) -> Result<(), AllocError>
+pub(crate) fn add(text: &mut Text, bytes: &[u8]) -> Result<(), AllocError>
     ensures ok { OnOk result (text.new.items ≡ text.old.items ++ bytes.now) }
 {
     text.extend_from_slice(bytes)
 }
 
 /// Adds a number in decimal.
-fn add_number(alloc: Global, text: &mut Text, n: u64) -> Result<(), AllocError>
+pub(crate) fn add_number(alloc: Global, text: &mut Text, n: u64) -> Result<(), AllocError>
     ensures ok { OnOk result (text.new.items ≡ text.old.items ++ decimal n) }
 {
     let digits = n.to_string(alloc)?;
@@ -183,13 +183,13 @@ fn add_goal(
 fn add_line(
     alloc: Global,
     text: &mut Text,
-    parsed: &Parsed,
+    typed: &Typed,
     answers: &Listing<Answer>,
     k: usize,
     i: usize,
     line: &Line,
 ) -> Result<(), AllocError>
-    ensures ok { OnOk result (text.new.items ≡ text.old.items ++ report_words.line_text parsed.now.program parsed.now.places answers.now k i line.now) }
+    ensures ok { OnOk result (text.new.items ≡ text.old.items ++ report_words.line_text typed.now.program typed.now.places answers.now k i line.now) }
 {
     if !is_goal(line) {
         return Ok(());
@@ -198,9 +198,9 @@ fn add_line(
     add_goal(
         alloc,
         text,
-        parsed.program(),
+        typed.program(),
         i as u64,
-        number_at(parsed, k),
+        number_at(typed, k),
         line,
         answer,
     )
@@ -226,26 +226,26 @@ fn counted(n: usize, more: bool) -> usize
 fn add_goals(
     alloc: Global,
     text: &mut Text,
-    parsed: &Parsed,
+    typed: &Typed,
     answers: &Listing<Answer>,
 ) -> Result<(), AllocError>
-    ensures ok { OnOk result (text.new.items ≡ text.old.items ++ report_words.goals_text parsed.now.program parsed.now.places answers.now 0 0 parsed.now.program.lines) }
+    ensures ok { OnOk result (text.new.items ≡ text.old.items ++ report_words.goals_text typed.now.program typed.now.places answers.now 0 0 typed.now.program.lines) }
 {
-    let lines = parsed.program().lines();
+    let lines = typed.program().lines();
     let mut i = 0;
     for k in 0..lines.len() {
         let line = lines.at(k);
-        add_line(alloc, text, parsed, answers, k, i, line)?;
+        add_line(alloc, text, typed, answers, k, i, line)?;
         i = counted(i, is_goal(line));
     }
     Ok(())
 }
 
 /// The line number of place `k`.
-fn number_at(parsed: &Parsed, k: usize) -> u64
-    ensures { result ≡ slice_index parsed.now.places k }
+fn number_at(typed: &Typed, k: usize) -> u64
+    ensures { result ≡ slice_index typed.now.places k }
 {
-    match parsed.places().as_slice().get(k) {
+    match typed.places().as_slice().get(k) {
         Some(number) => *number,
         None => 0,
     }
@@ -265,13 +265,13 @@ pub(crate) fn any_refuted(answers: &Listing<Answer>) -> bool
 #[tactic(auto, using(crate::proofs::TextLemmas::joined))]
 pub(crate) fn report_text(
     alloc: Global,
-    parsed: &Parsed,
+    typed: &Typed,
     answers: &Listing<Answer>,
 ) -> Result<Vec<u8>, AllocError>
-    ensures { IfOk result (λ text. text.items ≡ report_words.report_of parsed.now answers.now) }
+    ensures { IfOk result (λ text. text.items ≡ report_words.report_of typed.now answers.now) }
 {
     let mut text = Vec::new(alloc);
-    add_goals(alloc, &mut text, parsed, answers)?;
+    add_goals(alloc, &mut text, typed, answers)?;
     if any_refuted(answers) {
         add(&mut text, b"refuted\n")?;
     } else {

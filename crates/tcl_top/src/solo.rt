@@ -2,17 +2,22 @@
 
 ghost use Rattle.std.specs.Prelude.{◌≡◌, ◌⊎◌, ◌<◌, ◌≤◌, ◌+◌, true, IfOk, IfSome, IfNone, OnOk, OnErr, length};
 ghost use Rattle.tcl_io.specs.Faults.{Rose};
-ghost use Rattle.tcl_parse.specs.FirstText.{IsFirstText};
+ghost use Rattle.tcl_parse.specs.TextRefusals.{Says};
+ghost use Rattle.tcl_types.specs.Fault.{IsTyped};
+ghost use Rattle.tcl_top.specs.Early.{AreEarly};
 ghost use Rattle.tcl_top.specs.Headline as headline;
 
 use crate::answer::Answer;
+use crate::early::first_outside;
+use crate::refusal::{later_text, limit_text, shape_text, text_text, type_text};
 use crate::report::{any_refuted, report_text};
 use crate::walk::answers;
 use std::alloc::{AllocError, Global};
 use tcl_io::{ReadEnd, Sink, Source, WriteFault, read_all, write_all};
-use tcl_lang::Parsed;
+use tcl_lang::{Parsed, Typed};
 use tcl_list::Listing;
-use tcl_parse::parse_first;
+use tcl_parse::{ParseFault, parse};
+use tcl_types::{TypeFault, check};
 
 /// The greatest number of bytes of a text.
 const BYTE_LIMIT: u64 = 1_048_576;
@@ -20,7 +25,8 @@ const BYTE_LIMIT: u64 = 1_048_576;
 /// How a top call ended.
 #[derive(Clone, Copy, Debug, PartialEq, Eq)]
 pub struct Done {
-    /// 0 verified, 1 refuted, 5 read fault, 6 write fault, 7 out of memory, 8 usage, 9 limit, 10 not of the first form.
+    /// 0 verified, 1 refuted, 3 outside the grammar, 4 ill-typed, 5 read fault, 6 write fault, 7 out of memory, 8 usage,
+    /// 9 limit, 10 a line that the walk over inputs does not know.
     pub status: u8,
     /// The number of bytes that the sink took in this call.
     pub written: u64,
@@ -40,37 +46,88 @@ fn verdict_status(answers: &Listing<Answer>) -> u8
     if any_refuted(answers) { 1 } else { 0 }
 }
 
-/// The report on a program of the first form.
-fn report_on(alloc: Global, bytes: &[u8], parsed: &Parsed) -> Result<Reply, AllocError>
-    requires { IsFirstText bytes.now parsed.now }
+/// The report on a program that the walk over inputs knows.
+fn report_on(alloc: Global, bytes: &[u8], typed: &Typed) -> Result<Reply, AllocError>
+    requires accepted { headline.IsAccepted bytes.now typed.now }
+    requires typed { IsTyped typed.now }
+    requires early { AreEarly typed.now.program.lines }
     ensures { IfOk result (λ reply. headline.IsReported bytes.now reply.status reply.text.items) }
 {
-    let answers = answers(alloc, parsed.program())?;
-    let text = report_text(alloc, parsed, &answers)?;
+    let answers = answers(alloc, typed.program())?;
+    let text = report_text(alloc, typed, &answers)?;
     let status = verdict_status(&answers);
     Ok(Reply { status, text })
 }
 
-/// The refusal of a text that is not of the first form.
-fn later(alloc: Global) -> Result<Reply, AllocError>
-    ensures status { IfOk result (λ reply. reply.status ≡ 10) }
-    ensures text { IfOk result (λ reply. reply.text.items ≡ headline.later_text) }
+/// The status and the text for a text that is accepted and well typed.
+fn reply_to_typed(alloc: Global, bytes: &[u8], typed: &Typed) -> Result<Reply, AllocError>
+    requires accepted { headline.IsAccepted bytes.now typed.now }
+    requires typed { IsTyped typed.now }
+    ensures { IfOk result (λ reply. headline.IsAnswered bytes.now reply.status reply.text.items) }
 {
-    let text = Vec::from_slice(alloc, b"refused later line 1\n")?;
-    Ok(Reply { status: 10, text })
+    match first_outside(typed.program().lines()) {
+        Some(place) => {
+            let text = later_text(alloc, *typed.places().at(place))?;
+            Ok(Reply { status: 10, text })
+        }
+        None => {
+            let reply = report_on(alloc, bytes, typed)?;
+            Ok(reply)
+        }
+    }
+}
+
+/// The status and the text for a text that is accepted.
+fn reply_to_accepted(alloc: Global, bytes: &[u8], parsed: Parsed) -> Result<Reply, AllocError>
+    requires { headline.IsAccepted bytes.now parsed }
+    ensures { IfOk result (λ reply. headline.IsAnswered bytes.now reply.status reply.text.items) }
+{
+    match check(alloc, parsed) {
+        Ok(typed) => {
+            let reply = reply_to_typed(alloc, bytes, &typed)?;
+            Ok(reply)
+        }
+        Err(TypeFault::Ill(number, reason)) => {
+            let text = type_text(alloc, number, reason)?;
+            Ok(Reply { status: 4, text })
+        }
+        Err(TypeFault::Memory) => Err(AllocError),
+    }
+}
+
+/// The status and the text for a text that is refused.
+fn reply_to_fault(alloc: Global, bytes: &[u8], fault: ParseFault) -> Result<Reply, AllocError>
+    requires { Says bytes.now fault }
+    ensures { IfOk result (λ reply. headline.IsAnswered bytes.now reply.status reply.text.items) }
+{
+    match fault {
+        ParseFault::Text(number) => {
+            let text = text_text(alloc, number)?;
+            Ok(Reply { status: 3, text })
+        }
+        ParseFault::Shape(number) => {
+            let text = shape_text(alloc, number)?;
+            Ok(Reply { status: 3, text })
+        }
+        ParseFault::Limit(which) => {
+            let text = limit_text(alloc, which)?;
+            Ok(Reply { status: 9, text })
+        }
+        ParseFault::Memory => Err(AllocError),
+    }
 }
 
 /// The status and the text for a whole text.
 fn reply_to(alloc: Global, bytes: &[u8]) -> Result<Reply, AllocError>
     ensures { IfOk result (λ reply. headline.IsAnswered bytes.now reply.status reply.text.items) }
 {
-    match parse_first(alloc, bytes)? {
-        Some(parsed) => {
-            let reply = report_on(alloc, bytes, &parsed)?;
+    match parse(alloc, bytes) {
+        Ok(parsed) => {
+            let reply = reply_to_accepted(alloc, bytes, parsed)?;
             Ok(reply)
         }
-        None => {
-            let reply = later(alloc)?;
+        Err(fault) => {
+            let reply = reply_to_fault(alloc, bytes, fault)?;
             Ok(reply)
         }
     }
@@ -103,9 +160,9 @@ fn nothing(status: u8) -> Done
 
 /// Reads a program to its end, tries all its inputs, and writes the report.
 ///
-/// A text of the first form is lines ended by line feeds, words parted by one space: `in T x`, `pre rng A < B`,
-/// `add T x A B`, `assert rng A < B` and one last `end`, over types `u1` to `u8`. There is at most one text for
-/// each status, and it is made whole before the first write.
+/// The lines that the walk over inputs knows are `in`, `pre`, `mov`, `add`, `sub`, `assert` and `post` lines over types
+/// `u1` to `u8` whose predicates are one comparison of two operands: at most 64, with inputs of at most 12 bits. What was
+/// read has one row, whose text is made whole before the first write.
 pub fn solo_run<S: Source, K: Sink>(
     alloc: Global,
     words: &[String],

@@ -1,6 +1,6 @@
 //! The walk over all inputs: for each goal the first input that refutes it.
 
-ghost use Rattle.std.specs.Prelude.{◌≡◌, ◌<◌, ◌≤◌, ◌+◌, ◌^◌, ℕ, true, false, cond, IfSome, IfOk, None, Some, length, map, replicate, slice_get, slice_index_or, pos};
+ghost use Rattle.std.specs.Prelude.{◌≡◌, ◌<◌, ◌≤◌, ◌+◌, ◌^◌, ◌-◌, ℕ, true, false, cond, IfSome, IfOk, None, Some, length, map, replicate, slice_get, slice_index_or, pos};
 ghost use Rattle.std.specs.List.{list_all};
 ghost use Rattle.tcl_lang.specs.Exactness as exactness_words;
 ghost use Rattle.tcl_lang.specs.Store as store_words;
@@ -74,7 +74,7 @@ fn takes_value(line: &Line) -> bool
 
 /// The count with one more, where there is one more.
 fn counted(n: u32, more: bool) -> u32
-    requires { n < 64 }
+    requires { n < 2 ^ 32 - 1 }
     ensures { result ≡ n + cond more 1 0 }
 {
     if more { n + 1 } else { n }
@@ -94,7 +94,7 @@ fn line_at(lines: &Lines, k: usize) -> &Line
 /// The first line that is false in the run from an input. The store begins without values.
 fn first_false(lines: &Lines, input: &[i128], store: &mut [Word]) -> Option<FalseLine>
     requires early { list_all early.is_early_line lines.now ≡ true }
-    requires few { length lines.now < 64 }
+    requires few { length lines.now ≤ 64 }
     requires begins { store.old ≡ replicate (length store.old) store_words.empty_word }
     ensures within { IfSome result (λ f. f.place < length lines.now) }
     ensures fails { IfSome result (λ f. goal_words.truth_at (length store.old) lines.now input.now f.place ≡ false) }
@@ -253,7 +253,6 @@ fn answers_of(
 }
 
 /// The answers for the goals of a program, of which each input is tried.
-
 pub(crate) fn answers(alloc: Global, program: &Program) -> Result<Listing<Answer>, AllocError>
     requires { early.IsEarlyProgram program.now }
     ensures { IfOk result (λ answers. AreTrueAnswers (length program.now.names) program.now.lines answers) }

@@ -7,7 +7,7 @@ pub returns : goal.returns
 returns c =
     answers_are_true (length c.args.program.now.names) c.len.result c.args.program.now.lines c.lines-lines.result.now
     c.in_ok-types.types.items c.deref.result.now c.deref-2.result.now c.in_ok-found.found.items c.deref-3.result.now
-    c.in_ok-answers.answers c.requires.forms c.lines-lines.ensures.lines
+    c.in_ok-answers.answers c.requires.early.forms c.lines-lines.ensures.lines
     (c.len.ensures ∙ ap length c.names.ensures)
     (c.in_ok-types.ensures ∙ ap taken_types c.as_slice.ensures)
     c.deref.ensures.value c.deref-2.ensures.value c.deref-3.ensures.value

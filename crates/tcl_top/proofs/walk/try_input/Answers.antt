@@ -13,7 +13,7 @@ refuted_goal-requires-clause-fits c =
     let types = taken_types lines in
     rw c.write_input.ensures
     (subst (λ ts. Fits types (nth_input ts c.args.n)) (sym c.requires.types)
-    (nth_fits types c.args.n (types_early lines c.requires.walkable.forms)))
+    (nth_fits types c.args.n (types_early lines c.requires.walkable.early.forms)))
 
 pub note-requires : goal.note-requires
 note-requires c =

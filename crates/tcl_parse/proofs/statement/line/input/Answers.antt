@@ -1,0 +1,5 @@
+use Rattle.tcl_parse.proofs.StatementLines.{is_input}
+use Rattle.tcl_parse.proofs.statement.line.input.Goals as goal
+
+pub returns-then-ends : goal.returns-then-ends
+returns-then-ends c = record { exact = is_input c.in-Some.ensures c.in-Some-name_at.ensures c.if-ends.ensures }

@@ -1,0 +1,10 @@
+use Rattle.std.proofs.Common.{◌≡◌, ◌≤◌, take}
+use Rattle.std.specs.Prelude.{count_by}
+use Rattle.tcl_lang.specs.Line.{is_goal}
+use Rattle.tcl_parse.proofs.text.limits.goal_count.Given as goal
+
+abbrev pub invariant-loop-line : goal.invariant-loop-line
+invariant-loop-line l = record {
+  count : l.count ≡ count_by is_goal (take l.line-index l.lines);
+  few : l.count ≤ l.line-index;
+}
