@@ -1,0 +1,190 @@
+// Plain reduction over the integers.
+
+ghost use Rattle.std.specs.Prelude.{ℕ, IfOk, IsTrue, OnOk, [], ◌∷◌, ◌++◌};
+ghost use Rattle.tcl_ring.specs.Reduction as r;
+ghost use Rattle.tcl_poly.specs.Polynomial.{IsOver};
+ghost use Rattle.tcl_reduce.specs.Answer.{definitions_of};
+ghost use Rattle.tcl_reduce.specs.Definitions.{AreRising};
+ghost use Rattle.tcl_reduce.specs.Remainder.{AreDefinitions};
+ghost use Rattle.tcl_cofactor.specs.Combination.{Terms};
+
+use std::alloc::Global;
+use std::io::{self, Print};
+use tcl_poly::{
+    Cofactors, Poly, PolyFault, Unknown, add, degree, mul, number, terms, unknown, zero,
+};
+use tcl_reduce::{Definition, Defs, Plain, plain};
+use tcl_ring::{Ring, Whole};
+
+// The variables up to this number have no definition.
+const INPUTS: u32 = 16;
+
+/// Reduces a polynomial of about so many terms, and prints how many terms are left, and the number and terms of cofactors.
+pub(crate) fn reduce(
+    rt: &impl Print,
+    alloc: Global,
+    count: u32,
+    definitions: u32,
+) -> io::Result<()> {
+    match reduced(alloc, &Whole, count, definitions) {
+        Ok(Plain::Zero(cofactors)) => print_rest(rt, 0, &cofactors),
+        Ok(Plain::Rest(rest, cofactors)) => print_rest(rt, terms(&rest).len(), &cofactors),
+        Ok(Plain::Wide(_)) => println!(rt; "wide"),
+        Ok(Plain::Large(_, size)) => println!(rt; "large {size}"),
+        Ok(Plain::Memory) => println!(rt; "memory"),
+        Err(_) => println!(rt; "no polynomial"),
+    }
+}
+
+fn print_rest(rt: &impl Print, left: usize, cofactors: &Cofactors<Whole>) -> io::Result<()> {
+    let mut size = 0_usize;
+    for cofactor in cofactors.as_slice() {
+        size = size.saturating_add(terms(&cofactor.poly).len());
+    }
+    println!(rt; "left {left} cofactors {} terms {size}", cofactors.len())
+}
+
+fn reduced<R: Ring>(
+    alloc: Global,
+    ring: &R,
+    count: u32,
+    definitions: u32,
+) -> Result<Plain<R>, PolyFault> {
+    let mut defs = Defs::new(alloc);
+    for k in 0..definitions {
+        let poly = definition_of(alloc, ring, k)?;
+        define(ring, &mut defs, k, INPUTS.saturating_add(k), poly)?;
+    }
+    let f = polynomial(alloc, ring, count, definitions)?;
+    reduced_by(alloc, ring, &defs, &f)
+}
+
+fn reduced_by<R: Ring>(
+    alloc: Global,
+    ring: &R,
+    defs: &Defs<R>,
+    f: &Poly<R>,
+) -> Result<Plain<R>, PolyFault>
+    requires definitions { AreDefinitions (r.reduced_by (R.modulus_of ring.now)) (definitions_of (R.amount ring.now) defs.now) }
+    requires polynomial { IsOver (R.modulus_of ring.now) (R.amount ring.now) f.now }
+{
+    if degree(f) > 1024 {
+        return Err(PolyFault::Wide);
+    }
+    Ok(plain(alloc, ring, defs, f))
+}
+
+// Whether the place comes after all others.
+fn is_later<R: Ring>(defs: &Defs<R>, place: u32) -> bool
+    ensures { IsTrue result → (variable : ℕ) (poly : Terms R.Elem) → AreRising (defs.now ++ (place, variable, poly) ∷ []) }
+{
+    let count = defs.len();
+    if count == 0 {
+        return true;
+    }
+    let last = defs.at(count - 1).place;
+    if last < place {
+        return true;
+    }
+    false
+}
+
+// Appends a definition, if its place comes after the others.
+fn define<R: Ring>(
+    ring: &R,
+    defs: &mut Defs<R>,
+    place: u32,
+    variable: u32,
+    poly: Poly<R>,
+) -> Result<(), PolyFault>
+    requires definitions { AreDefinitions (r.reduced_by (R.modulus_of ring.now)) (definitions_of (R.amount ring.now) defs.old) }
+    requires over { IsOver (R.modulus_of ring.now) (R.amount ring.now) poly }
+    ensures { OnOk result (AreDefinitions (r.reduced_by (R.modulus_of ring.now)) (definitions_of (R.amount ring.now) defs.new)) }
+{
+    if !is_later(defs, place) {
+        return Err(PolyFault::Wide);
+    }
+    let definition = Definition {
+        place,
+        variable,
+        poly,
+    };
+    match defs.push(definition) {
+        Ok(()) => Ok(()),
+        Err(_) => Err(PolyFault::Memory),
+    }
+}
+
+// Twice a product of two inputs, plus the variable that an earlier place defines, or an input.
+fn definition_of<R: Ring>(alloc: Global, ring: &R, k: u32) -> Result<Poly<R>, PolyFault>
+    ensures { IfOk result (λ p. IsOver (R.modulus_of ring.now) (R.amount ring.now) p) }
+{
+    let first = term(alloc, ring, 2, &[k % INPUTS, k / INPUTS % INPUTS])?;
+    let second = term(alloc, ring, 1, &[earlier(k)])?;
+    add(ring, &first, &second)
+}
+
+// The variable of an earlier place, or an input.
+fn earlier(k: u32) -> u32 {
+    if k >= 20 {
+        INPUTS.saturating_add(k - 20)
+    } else {
+        (k + 5) % INPUTS
+    }
+}
+
+// So many different products of an input and two defined variables.
+fn polynomial<R: Ring>(
+    alloc: Global,
+    ring: &R,
+    count: u32,
+    definitions: u32,
+) -> Result<Poly<R>, PolyFault>
+    ensures { IfOk result (λ p. IsOver (R.modulus_of ring.now) (R.amount ring.now) p) }
+{
+    let mut sum = zero(alloc);
+    for k in 0..count {
+        let b = defined(definitions, k);
+        let c = defined(
+            definitions,
+            k.saturating_add(k / definitions.max(1)).saturating_add(1),
+        );
+        let coefficient = 1 + (k % 7) as i128;
+        let made = term(alloc, ring, coefficient, &[k % INPUTS, b, c])?;
+        sum = add(ring, &sum, &made)?;
+    }
+    Ok(sum)
+}
+
+// A defined variable, where there is one.
+fn defined(definitions: u32, k: u32) -> u32 {
+    INPUTS.saturating_add(k % definitions.max(1))
+}
+
+// A coefficient times variables.
+fn term<R: Ring>(
+    alloc: Global,
+    ring: &R,
+    coefficient: i128,
+    variables: &[u32],
+) -> Result<Poly<R>, PolyFault>
+    ensures { IfOk result (λ p. IsOver (R.modulus_of ring.now) (R.amount ring.now) p) }
+{
+    let mut product = number(alloc, ring, coefficient)?;
+    for variable in variables {
+        let factor = unknown(alloc, ring, Unknown::Var(*variable))?;
+        product = multiply(ring, &product, &factor)?;
+    }
+    Ok(product)
+}
+
+fn multiply<R: Ring>(ring: &R, a: &Poly<R>, b: &Poly<R>) -> Result<Poly<R>, PolyFault>
+    requires first { IsOver (R.modulus_of ring.now) (R.amount ring.now) a.now }
+    requires second { IsOver (R.modulus_of ring.now) (R.amount ring.now) b.now }
+    ensures { IfOk result (λ p. IsOver (R.modulus_of ring.now) (R.amount ring.now) p) }
+{
+    if degree(a) > 1024 || degree(b) > 1024 - degree(a) {
+        return Err(PolyFault::Wide);
+    }
+    mul(ring, a, b)
+}
