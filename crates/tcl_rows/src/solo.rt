@@ -91,6 +91,16 @@ fn reports(rt: HostRuntime) -> Result<(), AllocError> {
             0,
             "goal 0 line 4 exact proved\ngoal 1 line 5 assert proved\nverified\n",
         ),
+        (
+            "in u4 x\nin u8 y\npre rng y < 100@u8\nadd u8 x y y\nassert rng x < 199@u8\nassert rng x < 150@u8\nend\n",
+            1,
+            "goal 0 line 4 exact proved\ngoal 1 line 5 assert proved\ngoal 2 line 6 assert refuted\nin x 0\nin y 75\nrefuted\n",
+        ),
+        (
+            "in u8 x\nin u4 y\nadd u4 x y y\nassert rng x < 15@u4\nadd u8 y 255@u8 1@u8\nassert rng y < 1@u8\nend\n",
+            1,
+            "goal 0 line 3 exact refuted\nin x 0\nin y 8\ngoal 1 line 4 assert proved\ngoal 2 line 5 exact refuted\nin x 0\nin y 0\ngoal 3 line 6 assert proved\nrefuted\n",
+        ),
         ("end\n", 0, "verified\n"),
         ("end", 0, "verified\n"),
         ("end\r\n", 0, "verified\n"),

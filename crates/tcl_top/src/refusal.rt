@@ -5,9 +5,9 @@ ghost use Rattle.std.specs.Fmt.{decimal};
 ghost use Rattle.tcl_top.specs.Headline as headline;
 ghost use Rattle.tcl_top.specs.Words as words;
 
-use crate::report::{add, add_number};
 use std::alloc::{AllocError, Global};
 use tcl_lang::Reason;
+use tcl_report::{add, add_number};
 use tcl_text::Limit;
 
 /// The word of a limit.

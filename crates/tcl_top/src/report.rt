@@ -1,7 +1,6 @@
 //! The text of a report.
 
 ghost use Rattle.std.specs.Prelude.{◌≡◌, ◌<◌, ◌++◌, [], ◌∷◌, OnOk, OnErr, IfOk, codes, length, slice_index, slice_index_or, slice_get, cond, ◌+◌, ◌^◌};
-ghost use Rattle.std.specs.Fmt.{decimal, signed_decimal};
 ghost use Rattle.std.specs.Option.{option_copied};
 ghost use Rattle.tcl_top.specs.Answers as answer_words;
 ghost use Rattle.tcl_top.specs.Report as report_words;
@@ -11,32 +10,7 @@ use crate::walk::is_goal;
 use std::alloc::{AllocError, Global};
 use tcl_lang::{Line, Names, Program, Typed};
 use tcl_list::Listing;
-
-/// A text of bytes that grows.
-type Text = Vec<u8>;
-
-/// Adds bytes to a text.
-pub(crate) fn add(text: &mut Text, bytes: &[u8]) -> Result<(), AllocError>
-    ensures ok { OnOk result (text.new.items ≡ text.old.items ++ bytes.now) }
-{
-    text.extend_from_slice(bytes)
-}
-
-/// Adds a number in decimal.
-pub(crate) fn add_number(alloc: Global, text: &mut Text, n: u64) -> Result<(), AllocError>
-    ensures ok { OnOk result (text.new.items ≡ text.old.items ++ decimal n) }
-{
-    let digits = n.to_string(alloc)?;
-    add(text, digits.as_bytes())
-}
-
-/// Adds an integer in decimal.
-fn add_integer(alloc: Global, text: &mut Text, n: &i128) -> Result<(), AllocError>
-    ensures ok { OnOk result (text.new.items ≡ text.old.items ++ signed_decimal n.now) }
-{
-    let digits = n.to_string(alloc)?;
-    add(text, digits.as_bytes())
-}
+use tcl_report::{Text, add, add_integer, add_number};
 
 /// The word of a goal's kind.
 fn kind_of(line: &Line) -> &'static str
