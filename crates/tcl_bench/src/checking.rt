@@ -1,28 +1,27 @@
 // Logs of resolutions and their check.
 
 use std::alloc::{AllocError, Global};
-use std::io::{self, Print};
 use tcl_cnf::{Clause, Cnf, Lit, LogAnswer, LogLines, check_log};
 
-/// Checks a log of so many lines, each a chain of so many clauses, and prints the answer.
+/// Checks a log of so many lines, each a chain of so many clauses, and says the answer.
 ///
 /// Each given clause says that a variable implies the next one, and the first variable is true. A line derives the variable
 /// that lies so many places on, and the last line the empty clause.
-pub(crate) fn check_lines(
-    rt: &impl Print,
-    alloc: Global,
-    lines: u32,
-    length: u32,
-) -> io::Result<()> {
+pub(crate) fn check_text(alloc: Global, lines: u32, length: u32) -> Result<String, AllocError> {
     let steps = lines.saturating_mul(length);
     let cnf = implications(alloc, steps)?;
     let log = chains(alloc, steps, lines, length)?;
-    match check_log(alloc, &cnf, &log)? {
-        LogAnswer::BadLine(line) => println!(rt; "bad line {line}")?,
-        LogAnswer::NoEnd => println!(rt; "no end")?,
-        LogAnswer::Refutes => println!(rt; "refutes")?,
+    let mut text = answer_text(alloc, check_log(alloc, &cnf, &log)?)?;
+    write!(&mut text, "clauses {} lines {}\n", cnf.len(), log.len())?;
+    Ok(text)
+}
+
+fn answer_text(alloc: Global, answer: LogAnswer) -> Result<String, AllocError> {
+    match answer {
+        LogAnswer::BadLine(line) => format!(in alloc; "bad line {line}\n"),
+        LogAnswer::NoEnd => String::from_str(alloc, "no end\n"),
+        LogAnswer::Refutes => String::from_str(alloc, "refutes\n"),
     }
-    println!(rt; "clauses {} lines {}", cnf.len(), log.len())
 }
 
 // Clause 0 says that variable 0 is true, clause k that variable k - 1 implies variable k, and the last that the last is false.
@@ -30,11 +29,8 @@ fn implications(alloc: Global, steps: u32) -> Result<Cnf, AllocError> {
     let mut cnf = Cnf::new(alloc);
     push(alloc, &mut cnf, &[variable(0)])?;
     for k in 0..steps {
-        push(
-            alloc,
-            &mut cnf,
-            &[variable(k).negation(), variable(k.saturating_add(1))],
-        )?;
+        let next = variable(k.saturating_add(1));
+        push(alloc, &mut cnf, &[variable(k).negation(), next])?;
     }
     push(alloc, &mut cnf, &[variable(steps).negation()])?;
     Ok(cnf)

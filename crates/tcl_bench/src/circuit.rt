@@ -27,11 +27,18 @@ pub(crate) fn sum(
     let mut carry = Lit::of(0).negation();
     let mut word = Vec::new(alloc);
     for (x, y) in a.iter().zip(b) {
-        let half = add(gates, Gate::Xor(*x, *y))?;
-        word.push(add(gates, Gate::Xor(half, carry))?)?;
-        carry = add(gates, Gate::Major(*x, *y, carry))?;
+        let (bit, next) = full_adder(gates, *x, *y, carry)?;
+        word.push(bit)?;
+        carry = next;
     }
     Ok(word)
+}
+
+// The sum of three bits and its carry.
+fn full_adder(gates: &mut Gates, x: Lit, y: Lit, carry: Lit) -> Result<(Lit, Lit), AllocError> {
+    let half = add(gates, Gate::Xor(x, y))?;
+    let bit = add(gates, Gate::Xor(half, carry))?;
+    Ok((bit, add(gates, Gate::Major(x, y, carry))?))
 }
 
 /// The product, as long as the first word.
@@ -94,7 +101,8 @@ pub(crate) fn differences(
 ) -> Result<Vec<Lit>, AllocError> {
     let mut bits = Vec::new(alloc);
     for (x, y) in a.iter().zip(b) {
-        bits.push(add(gates, Gate::Xor(*x, *y))?)?;
+        let bit = add(gates, Gate::Xor(*x, *y))?;
+        bits.push(bit)?;
     }
     Ok(bits)
 }

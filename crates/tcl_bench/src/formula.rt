@@ -21,12 +21,19 @@ pub(crate) enum Formula {
 impl Formula {
     pub(crate) fn of_words(words: &[&str]) -> Option<Formula> {
         match *words {
-            ["multiply", width] => Some(Formula::Multiply(width.parse().ok()?)),
-            ["distribute", width] => Some(Formula::Distribute(width.parse().ok()?)),
-            ["associate", width] => Some(Formula::Associate(width.parse().ok()?)),
+            [name, width] => Formula::of_width(name, width.parse().ok()?),
             ["pigeons", pigeons, holes] => {
                 Some(Formula::Pigeons(pigeons.parse().ok()?, holes.parse().ok()?))
             }
+            _ => None,
+        }
+    }
+
+    fn of_width(name: &str, width: u32) -> Option<Formula> {
+        match name {
+            "multiply" => Some(Formula::Multiply(width)),
+            "distribute" => Some(Formula::Distribute(width)),
+            "associate" => Some(Formula::Associate(width)),
             _ => None,
         }
     }
@@ -55,12 +62,44 @@ fn distribute(alloc: Global, width: u32) -> Result<Cnf, AllocError> {
     let x = circuit::input(alloc, &mut gates, width)?;
     let y = circuit::input(alloc, &mut gates, width)?;
     let z = circuit::input(alloc, &mut gates, width)?;
-    let both = circuit::sum(alloc, &mut gates, &y, &z)?;
-    let left = circuit::product(alloc, &mut gates, &x, &both)?;
-    let first = circuit::product(alloc, &mut gates, &x, &y)?;
-    let second = circuit::product(alloc, &mut gates, &x, &z)?;
-    let right = circuit::sum(alloc, &mut gates, &first, &second)?;
-    unequal(alloc, &mut gates, &left, &right)
+    products_differ(alloc, &mut gates, &x, &y, &z)
+}
+
+fn products_differ(
+    alloc: Global,
+    gates: &mut Gates,
+    x: &[Lit],
+    y: &[Lit],
+    z: &[Lit],
+) -> Result<Cnf, AllocError> {
+    let left = product_of_sum(alloc, gates, x, y, z)?;
+    let right = sum_of_products(alloc, gates, x, y, z)?;
+    unequal(alloc, gates, &left, &right)
+}
+
+// `x * (y + z)`.
+fn product_of_sum(
+    alloc: Global,
+    gates: &mut Gates,
+    x: &[Lit],
+    y: &[Lit],
+    z: &[Lit],
+) -> Result<Vec<Lit>, AllocError> {
+    let both = circuit::sum(alloc, gates, y, z)?;
+    circuit::product(alloc, gates, x, &both)
+}
+
+// `x * y + x * z`.
+fn sum_of_products(
+    alloc: Global,
+    gates: &mut Gates,
+    x: &[Lit],
+    y: &[Lit],
+    z: &[Lit],
+) -> Result<Vec<Lit>, AllocError> {
+    let first = circuit::product(alloc, gates, x, y)?;
+    let second = circuit::product(alloc, gates, x, z)?;
+    circuit::sum(alloc, gates, &first, &second)
 }
 
 fn associate(alloc: Global, width: u32) -> Result<Cnf, AllocError> {
@@ -68,11 +107,43 @@ fn associate(alloc: Global, width: u32) -> Result<Cnf, AllocError> {
     let x = circuit::input(alloc, &mut gates, width)?;
     let y = circuit::input(alloc, &mut gates, width)?;
     let z = circuit::input(alloc, &mut gates, width)?;
-    let first = circuit::sum(alloc, &mut gates, &x, &y)?;
-    let left = circuit::sum(alloc, &mut gates, &first, &z)?;
-    let second = circuit::sum(alloc, &mut gates, &y, &z)?;
-    let right = circuit::sum(alloc, &mut gates, &x, &second)?;
-    unequal(alloc, &mut gates, &left, &right)
+    sums_differ(alloc, &mut gates, &x, &y, &z)
+}
+
+fn sums_differ(
+    alloc: Global,
+    gates: &mut Gates,
+    x: &[Lit],
+    y: &[Lit],
+    z: &[Lit],
+) -> Result<Cnf, AllocError> {
+    let left = sum_plus_word(alloc, gates, x, y, z)?;
+    let right = word_plus_sum(alloc, gates, x, y, z)?;
+    unequal(alloc, gates, &left, &right)
+}
+
+// `(x + y) + z`.
+fn sum_plus_word(
+    alloc: Global,
+    gates: &mut Gates,
+    x: &[Lit],
+    y: &[Lit],
+    z: &[Lit],
+) -> Result<Vec<Lit>, AllocError> {
+    let both = circuit::sum(alloc, gates, x, y)?;
+    circuit::sum(alloc, gates, &both, z)
+}
+
+// `x + (y + z)`.
+fn word_plus_sum(
+    alloc: Global,
+    gates: &mut Gates,
+    x: &[Lit],
+    y: &[Lit],
+    z: &[Lit],
+) -> Result<Vec<Lit>, AllocError> {
+    let both = circuit::sum(alloc, gates, y, z)?;
+    circuit::sum(alloc, gates, x, &both)
 }
 
 // The clauses of the gates, and that some bit of the two words differs.

@@ -1,5 +1,5 @@
 //! Workloads whose time is taken from outside. The words on the command line choose one and its sizes, and what is printed
-//! are counts: the answer, clauses, terms, bytes.
+//! are counts: the answer, clauses, terms, bytes. A workload makes its text, and only `main` prints.
 #![tactic(auto)]
 
 mod checking;
@@ -11,10 +11,9 @@ mod searching;
 
 use formula::Formula;
 use reading::Kind;
-use std::alloc::Global;
-use std::env;
-use std::io::{self, Print};
+use std::alloc::{AllocError, Global};
 use std::process::ExitCode;
+use std::{env, io};
 
 // What is to be done.
 enum Workload {
@@ -31,38 +30,62 @@ enum Workload {
 }
 
 fn workload_of(words: &[&str]) -> Option<Workload> {
-    match *words {
-        ["search", ref formula @ ..] => Some(Workload::Search(Formula::of_words(formula)?)),
-        ["dimacs", ref formula @ ..] => Some(Workload::Dimacs(Formula::of_words(formula)?)),
-        ["parse", kind, size] => Some(Workload::Parse(Kind::of_word(kind)?, size.parse().ok()?)),
-        ["reduce", count, definitions] => Some(Workload::Reduce(
-            count.parse().ok()?,
-            definitions.parse().ok()?,
-        )),
-        ["check", lines, length] => {
-            Some(Workload::Check(lines.parse().ok()?, length.parse().ok()?))
+    let (name, rest) = words.split_first()?;
+    match *name {
+        "search" => Some(Workload::Search(Formula::of_words(rest)?)),
+        "dimacs" => Some(Workload::Dimacs(Formula::of_words(rest)?)),
+        "parse" => {
+            let (kind, size) = pair_of(rest)?;
+            Some(Workload::Parse(Kind::of_word(kind)?, size.parse().ok()?))
+        }
+        "reduce" => {
+            let (count, definitions) = sizes_of(rest)?;
+            Some(Workload::Reduce(count, definitions))
+        }
+        "check" => {
+            let (lines, length) = sizes_of(rest)?;
+            Some(Workload::Check(lines, length))
         }
         _ => None,
     }
 }
 
-fn perform(rt: &impl Print, alloc: Global, workload: Workload) -> io::Result<()> {
+fn pair_of<'a>(words: &[&'a str]) -> Option<(&'a str, &'a str)> {
+    match *words {
+        [first, second] => Some((first, second)),
+        _ => None,
+    }
+}
+
+fn sizes_of(words: &[&str]) -> Option<(u32, u32)> {
+    let (first, second) = pair_of(words)?;
+    Some((first.parse().ok()?, second.parse().ok()?))
+}
+
+// The workload that the command line names, if there is one.
+fn chosen(rt: &HostRuntime, alloc: Global) -> io::Result<Option<Workload>> {
+    let args: Vec<String> = env::args(rt)?.skip(1).collect(alloc)?;
+    let words: Vec<&str> = args.iter().map(|word| word.as_str()).collect(alloc)?;
+    Ok(workload_of(&words))
+}
+
+// What is printed of a workload.
+fn text_of(alloc: Global, workload: Workload) -> Result<String, AllocError> {
     match workload {
-        Workload::Search(formula) => searching::search_formula(rt, alloc, formula),
-        Workload::Dimacs(formula) => searching::print_formula(rt, alloc, formula),
-        Workload::Parse(kind, size) => reading::parse_text(rt, alloc, kind, size),
-        Workload::Reduce(count, definitions) => reducing::reduce(rt, alloc, count, definitions),
-        Workload::Check(lines, length) => checking::check_lines(rt, alloc, lines, length),
+        Workload::Search(formula) => searching::search_text(alloc, formula),
+        Workload::Dimacs(formula) => searching::formula_text(alloc, formula),
+        Workload::Parse(kind, size) => reading::parse_text(alloc, kind, size),
+        Workload::Reduce(count, definitions) => reducing::reduce_text(alloc, count, definitions),
+        Workload::Check(lines, length) => checking::check_text(alloc, lines, length),
     }
 }
 
 fn main(rt: HostRuntime) -> io::Result<ExitCode> {
     let alloc = rt.alloc();
-    let args: Vec<String> = env::args(&rt)?.skip(1).collect(alloc)?;
-    let words: Vec<&str> = args.iter().map(|word| word.as_str()).collect(alloc)?;
-    match workload_of(&words) {
+    match chosen(&rt, alloc)? {
         Some(workload) => {
-            perform(&rt, alloc, workload)?;
+            let text = text_of(alloc, workload)?;
+            print!(rt; "{text}")?;
             Ok(ExitCode::SUCCESS)
         }
         None => {

@@ -1,7 +1,6 @@
 // Texts of the language and their parser.
 
 use std::alloc::{AllocError, Global};
-use std::io::{self, Print};
 use tcl_parse::parse;
 
 /// What most lines of a text are.
@@ -29,15 +28,19 @@ impl Kind {
     }
 }
 
-/// Makes a text of about so many bytes, parses it, and prints how many bytes and lines it has.
-pub(crate) fn parse_text(rt: &impl Print, alloc: Global, kind: Kind, size: u32) -> io::Result<()> {
+/// Makes a text of about so many bytes, parses it, and says how many bytes and lines it has.
+pub(crate) fn parse_text(alloc: Global, kind: Kind, size: u32) -> Result<String, AllocError> {
     let text = text_of(alloc, kind, size)?;
-    match parse(alloc, text.as_bytes()) {
-        Ok(parsed) => println!(rt; "ok {}", parsed.program().lines().len())?,
-        Err(_) => println!(rt; "refused")?,
+    match count_lines(alloc, text.as_bytes()) {
+        Some(lines) => format!(in alloc; "ok {lines}\nbytes {}\n", text.len()),
+        None => format!(in alloc; "refused\nbytes {}\n", text.len()),
     }
-    println!(rt; "bytes {}", text.len())?;
-    Ok(())
+}
+
+// The number of lines of the program that the text reads as, if it reads as one.
+fn count_lines(alloc: Global, text: &[u8]) -> Option<usize> {
+    let parsed = parse(alloc, text).ok()?;
+    Some(parsed.program().lines().len())
 }
 
 fn text_of(alloc: Global, kind: Kind, size: u32) -> Result<String, AllocError> {

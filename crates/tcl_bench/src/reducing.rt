@@ -6,10 +6,9 @@ ghost use Rattle.tcl_poly.specs.Polynomial.{IsOver};
 ghost use Rattle.tcl_reduce.specs.Answer.{definitions_of};
 ghost use Rattle.tcl_reduce.specs.Definitions.{AreRising};
 ghost use Rattle.tcl_reduce.specs.Remainder.{AreDefinitions};
-ghost use Rattle.tcl_cofactor.specs.Combination.{Terms};
+ghost use Rattle.tcl_poly.specs.Combination.{Terms};
 
-use std::alloc::Global;
-use std::io::{self, Print};
+use std::alloc::{AllocError, Global};
 use tcl_poly::{
     Cofactors, Poly, PolyFault, Unknown, add, degree, mul, number, terms, unknown, zero,
 };
@@ -19,29 +18,33 @@ use tcl_ring::{Ring, Whole};
 // The variables up to this number have no definition.
 const INPUTS: u32 = 16;
 
-/// Reduces a polynomial of about so many terms, and prints how many terms are left, and the number and terms of cofactors.
-pub(crate) fn reduce(
-    rt: &impl Print,
+/// Reduces a polynomial of about so many terms, and says how many terms are left, and the number and terms of cofactors.
+pub(crate) fn reduce_text(
     alloc: Global,
     count: u32,
     definitions: u32,
-) -> io::Result<()> {
+) -> Result<String, AllocError> {
     match reduced(alloc, &Whole, count, definitions) {
-        Ok(Plain::Zero(cofactors)) => print_rest(rt, 0, &cofactors),
-        Ok(Plain::Rest(rest, cofactors)) => print_rest(rt, terms(&rest).len(), &cofactors),
-        Ok(Plain::Wide(_)) => println!(rt; "wide"),
-        Ok(Plain::Large(_, size)) => println!(rt; "large {size}"),
-        Ok(Plain::Memory) => println!(rt; "memory"),
-        Err(_) => println!(rt; "no polynomial"),
+        Ok(Plain::Zero(cofactors, _)) => rest_text(alloc, 0, &cofactors),
+        Ok(Plain::Rest(rest, cofactors, _)) => rest_text(alloc, terms(&rest).len(), &cofactors),
+        Ok(Plain::Wide(_)) => String::from_str(alloc, "wide\n"),
+        Ok(Plain::Large(_, size)) => format!(in alloc; "large {size}\n"),
+        Ok(Plain::Memory) => String::from_str(alloc, "memory\n"),
+        Err(_) => String::from_str(alloc, "no polynomial\n"),
     }
 }
 
-fn print_rest(rt: &impl Print, left: usize, cofactors: &Cofactors<Whole>) -> io::Result<()> {
+fn rest_text(
+    alloc: Global,
+    left: usize,
+    cofactors: &Cofactors<Whole>,
+) -> Result<String, AllocError> {
     let mut size = 0_usize;
     for cofactor in cofactors.as_slice() {
         size = size.saturating_add(terms(&cofactor.poly).len());
     }
-    println!(rt; "left {left} cofactors {} terms {size}", cofactors.len())
+    let count = cofactors.len();
+    format!(in alloc; "left {left} cofactors {count} terms {size}\n")
 }
 
 fn reduced<R: Ring>(

@@ -4,9 +4,8 @@ ghost use Rattle.std.specs.Prelude.{◌≡◌};
 
 use crate::formula::Formula;
 use std::alloc::{AllocError, Global};
-use std::io::{self, Print};
 use tcl_cnf::{Clause, Cnf};
-use tcl_lang::{Poll, Port};
+use tcl_port::{Poll, Port};
 use tcl_sat::{Found, search};
 
 // How many clauses a search may derive, and in rounds of how many.
@@ -31,15 +30,30 @@ impl Port for Patient {
     }
 }
 
-/// Searches, and prints the answer with the number of derived clauses, of which there is one for each conflict.
-pub(crate) fn search_formula(rt: &impl Print, alloc: Global, formula: Formula) -> io::Result<()> {
+// The answer of a search, and how many clauses it derived.
+#[derive(Clone, Copy)]
+struct Outcome {
+    name: &'static str,
+    derived: usize,
+}
+
+/// Searches, and says the answer with the number of derived clauses, of which there is one for each conflict.
+pub(crate) fn search_text(alloc: Global, formula: Formula) -> Result<String, AllocError> {
     let cnf = formula.clauses(alloc)?;
     let mut port = Patient { polls: 0 };
-    let found = search(alloc, &cnf, BUDGET, ROUND, &mut port)?;
-    let derived = derived_by(&found);
-    println!(rt; "{} {derived}", name_of(&found))?;
-    println!(rt; "clauses {} polls {}", cnf.len(), port.polls)?;
-    Ok(())
+    let Outcome { name, derived } = outcome_of(alloc, &cnf, &mut port)?;
+    let polls = port.polls;
+    format!(in alloc; "{name} {derived}\nclauses {} polls {polls}\n", cnf.len())
+}
+
+fn outcome_of(alloc: Global, cnf: &Cnf, port: &mut Patient) -> Result<Outcome, AllocError> {
+    let found = search(alloc, cnf, BUDGET, ROUND, port)?;
+    let outcome = Outcome {
+        name: name_of(&found),
+        derived: derived_by(&found),
+    };
+    drop(found);
+    Ok(outcome)
 }
 
 fn name_of(found: &Found) -> &'static str {
@@ -61,13 +75,12 @@ fn derived_by(found: &Found) -> usize {
     }
 }
 
-/// Prints the formula, whose variables are numbered from 1 there.
-pub(crate) fn print_formula(rt: &impl Print, alloc: Global, formula: Formula) -> io::Result<()> {
+/// The formula, whose variables are numbered from 1 there.
+pub(crate) fn formula_text(alloc: Global, formula: Formula) -> Result<String, AllocError> {
     let cnf = formula.clauses(alloc)?;
     let mut text = String::new(alloc);
     write_formula(&mut text, &cnf)?;
-    print!(rt; "{text}")?;
-    Ok(())
+    Ok(text)
 }
 
 fn write_formula(text: &mut String, cnf: &Cnf) -> Result<(), AllocError> {

@@ -64,6 +64,3 @@ pub fn is_less(signed: bool, xs: &[bool], ys: &[bool]) -> bool
     }
     !carry
 }
-
-#[cfg(test)]
-mod tests;

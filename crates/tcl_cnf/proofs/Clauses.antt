@@ -8,7 +8,7 @@ use Rattle.tcl_cnf.specs.Clause.{has, put, union, IsClause, AreClauses, clashes_
 use Rattle.tcl_cnf.proofs.Bools.{true-false}
 use Rattle.tcl_cnf.proofs.Members.{has-union}
 use Rattle.tcl_cnf.proofs.Ordered.{increasing-union}
-use Rattle.tcl_cnf.proofs.Entries.{get-last}
+use Rattle.tcl_cnf.proofs.Entries.{get-last, get-either}
 
 -- no list of clauses holds only clauses
 pub are_clauses_none : AreClauses []
@@ -17,6 +17,12 @@ are_clauses_none = record { each = λ k c e. cc }
 -- one clause more
 pub are_clauses_push : (clauses : List (List ℕ)) (c : List ℕ) → AreClauses clauses → IsClause c → AreClauses (clauses ++ c ∷ [])
 are_clauses_push clauses c all one = record { each = λ k d e. elim (get-last clauses c k d e) [ inl f ↦ all.each k d f | inr p ↦ subst IsClause (sym p.1) one ] }
+
+-- more clauses behind
+pub are_clauses_append : (clauses more : List (List ℕ)) → AreClauses clauses → AreClauses more → AreClauses (clauses ++ more)
+are_clauses_append clauses more all others = record {
+  each = λ k c e. elim (get-either clauses more k c e) [ inl f ↦ all.each k c f | inr p ↦ others.each p.0 c p.1 ];
+}
 
 -- where some member passes the test, the list does
 pub any_from_has : (p : ℕ → Bool) (x : ℕ) (xs : List ℕ) → has x xs ≡ true → p x ≡ true → list_any p xs ≡ true
@@ -40,7 +46,3 @@ union-push c (y ∷ xs) x = union-push (put y c) xs x
 -- one literal more is put into the union
 pub union_more : (c xs : List ℕ) (i x : ℕ) → i < length xs → x ≡ get_or xs i x → union c (take (i + 1) xs) ≡ put x (union c (take i xs))
 union_more c xs i x h e = ap (union c) (take_more xs i x h) ∙ union-push c (take i xs) (get_or xs i x) ∙ ap (λ t. put t (union c (take i xs))) (sym e)
-
--- all literals have been put into the list
-pub union_all : (ls sorted : List ℕ) (i : ℕ) → sorted ≡ union [] (take i ls) → length ls ≤ i → clashes_within ls ≡ false → IsClause sorted
-union_all ls sorted i e h f = subst IsClause (sym (e ∙ ap (union []) (take_all i ls h))) (union_clause ls f)

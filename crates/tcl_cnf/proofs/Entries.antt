@@ -39,3 +39,9 @@ get-in_take zero xs k h = absurd (omega (arith, h))
 get-in_take (suc n) [] k h = refl
 get-in_take (suc n) (z ∷ xs) zero h = refl
 get-in_take (suc n) (z ∷ xs) (suc k) h = get-in_take n xs k (omega (arith, h))
+
+-- an entry of two lists, one behind the other, is one of the first or of the second
+pub get-either : {A : Type 0} (xs ys : List A) (k : ℕ) (x : A) → slice_get (xs ++ ys) k ≡ Some x → (slice_get xs k ≡ Some x) ⊎ ((j : ℕ) × (slice_get ys j ≡ Some x))
+get-either [] ys k x e = inr (k, e)
+get-either (z ∷ xs) ys zero x e = inl e
+get-either (z ∷ xs) ys (suc k) x e = get-either xs ys k x e

@@ -5,9 +5,11 @@ pub mod Ordered
 pub mod Clauses
 pub mod Truth
 pub mod Freshness
+pub mod Renames
 pub mod Joins
 pub mod Chains
 pub mod LogLemmas
 pub mod RowLemmas
 pub mod MarkLemmas
 pub mod ResolutionLemmas
+pub mod SortingLemmas

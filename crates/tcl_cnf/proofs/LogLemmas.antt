@@ -8,6 +8,7 @@ use Rattle.std.proofs.lemmas.List.{take_all, drop_all, append-nil, take-append-l
 use Rattle.tcl_cnf.specs.Clause.{AreClauses, clause_true, all_true, Satisfies, Follows, HaveNoSolution}
 use Rattle.tcl_cnf.specs.Resolution.{chain_of}
 use Rattle.tcl_cnf.specs.Log.{is_empty, has_empty, derived, answer_from, log_answer, IsFirstBadLine, AreChains, IsAnswer, LogState, IsLog, AddsClause, with_line}
+use Rattle.tcl_cnf.specs.FreshLogs.{AreFresh, IsFreshLog, DeriveFresh}
 use Rattle.tcl_cnf.specs.declared.answer.LogAnswer.{LogAnswer}
 use Rattle.tcl_cnf.specs.declared.answer.LogAnswer.TheVariants.{BadLine, NoEnd, Refutes}
 use Rattle.tcl_cnf.proofs.Bools.{true-false, or-false, or-assoc}
@@ -272,3 +273,24 @@ answer_end clauses lines k refuted all e h = sym (answer_none k refuted clauses)
 -- the clauses stay clauses
 pub added_clauses : (clauses after : List (List ℕ)) (line : List ℕ) (empty : Bool) → AreClauses clauses → AddsClause clauses after line empty → AreClauses after
 added_clauses clauses after line empty all a = subst AreClauses (sym a.behind) (are_clauses_push clauses a.clause all (chain_clause clauses line a.clause all a.chain))
+
+-- as many clauses are derived as there are lines
+pub derived_count : (clauses lines all : List (List ℕ)) → derived clauses lines ≡ Some all → length all ≡ length clauses + length lines
+derived_count clauses [] all d = ap length (sym (same_Some clauses all (sym (derived_none clauses) ∙ d))) ∙ omega arith
+derived_count clauses (l ∷ lines) all d =
+    let f = first_line clauses lines l all d in
+    derived_count (clauses ++ f.clause ∷ []) lines all f.rest ∙ ap (λ n. n + length lines) (length-append clauses (f.clause ∷ [])) ∙ omega arith
+
+-- a log has a line for each derived clause
+pub log_count : (log : LogState) → IsLog log → length log.clauses ≡ log.given + length log.lines
+log_count log i = derived_count (take log.given log.clauses) log.lines log.clauses i.derives ∙ ap (λ n. n + length log.lines) (length-take-le log.given log.clauses i.within)
+
+-- the lines of a log of fresh clauses derive them
+pub log_fresh : (log : LogState) (cnf : List (List ℕ)) (n : ℕ) → IsLog log → IsFreshLog cnf n log → DeriveFresh cnf n log.lines
+log_fresh log cnf n i f = record {
+  all = log.clauses;
+  chains = ap (λ (t : List (List ℕ)). derived t log.lines) (sym f.log_of.formula) ∙ i.derives;
+  whole = f.whole ∙ ap (λ m. m + n) f.log_of.given;
+  fresh = subst (AreFresh log.clauses) f.log_of.given f.fresh;
+  none_empty = ap (λ m. has_empty (drop m log.clauses)) (sym f.log_of.given) ∙ f.none_empty;
+}

@@ -165,7 +165,7 @@ has_place m (x ∷ xs) h = elim (first_or_rest x m xs h) [
   | inr i ↦ let r = has_place m xs i in (suc r.0, omega (arith, r.1), r.2)
 ]
 
-increasing_from_pairs : (xs : List ℕ) → AllPairs (λ x y. x < y) xs → IsIncreasing xs
+pub increasing_from_pairs : (xs : List ℕ) → AllPairs (λ x y. x < y) xs → IsIncreasing xs
 increasing_from_pairs [] p = tt
 increasing_from_pairs (x ∷ xs) p = (
   (λ m h. let k = has_place m xs h in subst (λ t. x < t) k.2 (p 0 (suc k.0) 0 (omega arith) (omega (arith, k.1)))),
@@ -179,7 +179,7 @@ has-dedup_from x k (y ∷ xs) = elim (cases_Bool (eqb y k)) [
   | inr e ↦ rw e (ap (λ b. eqb k x || b) (has-dedup_from x y xs))
 ]
 
-has-dedup : (x : ℕ) (xs : List ℕ) → has x (dedup eqb xs) ≡ has x xs
+pub has-dedup : (x : ℕ) (xs : List ℕ) → has x (dedup eqb xs) ≡ has x xs
 has-dedup x [] = refl
 has-dedup x (y ∷ xs) = has-dedup_from x y xs
 

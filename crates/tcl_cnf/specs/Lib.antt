@@ -1,7 +1,11 @@
 pub mod Literal
 pub mod Clause
+pub mod Variables
 pub mod Resolution
 pub mod Propagation
+pub mod Renaming
 pub mod Log
+pub mod FreshLogs
 pub mod Rows
 pub mod Marks
+pub mod Sorting

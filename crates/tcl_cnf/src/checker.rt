@@ -32,7 +32,7 @@ pub fn check_log(alloc: Global, cnf: &Cnf, lines: &LogLines) -> Result<LogAnswer
     Ok(answer)
 }
 
-// Reads the lines one after another, up to the first that is no chain.
+/// Reads the lines one after another, up to the first that is no chain.
 fn answer_lines(alloc: Global, cnf: &Cnf, lines: &LogLines) -> Result<LogAnswer, AllocError>
     ensures { IfOk result (λ answer. answer ≡ log_answer cnf.now lines.now) }
 {
@@ -52,7 +52,7 @@ fn answer_lines(alloc: Global, cnf: &Cnf, lines: &LogLines) -> Result<LogAnswer,
     Ok(ending(refuted))
 }
 
-// The answer where all lines are chains.
+/// The answer where all lines are chains.
 fn ending(refuted: bool) -> LogAnswer
     ensures { result ≡ (if refuted then LogAnswer.Refutes else LogAnswer.NoEnd) }
 {
@@ -63,7 +63,7 @@ fn ending(refuted: bool) -> LogAnswer
     }
 }
 
-// The clauses of the formula, and behind them those of the lines so far.
+/// The clauses of the formula, and behind them those of the lines so far.
 #[derive(Drop)]
 struct Known<'a> {
     given: &'a Cnf,
@@ -88,7 +88,7 @@ impl Numbered for Known<'_> {
     }
 }
 
-// Adds the clause that a line derives, and says whether it is empty; none where the line is no chain.
+/// Adds the clause that a line derives, and says whether it is empty; none where the line is no chain.
 fn add_line(marks: &mut Marks, known: &mut Known, line: &[u32]) -> Result<Option<bool>, AllocError>
     requires empty { marks.old ≡ [] }
     requires are_clauses { AreClauses (known.old.given.now ++ known.old.derived) }

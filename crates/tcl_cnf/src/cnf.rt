@@ -27,6 +27,7 @@ impl Model for Cnf {
 }
 
 impl Cnf {
+    /// The formula with no clause, which all values meet; takes no memory.
     pub fn new(alloc: Global) -> Cnf
         ensures { result ≡ [] }
     {
@@ -35,6 +36,7 @@ impl Cnf {
         }
     }
 
+    /// The number of clauses.
     pub fn len(&self) -> usize
         ensures { result ≡ length self.now }
     {
@@ -49,6 +51,7 @@ impl Cnf {
         &self.clauses[k]
     }
 
+    /// Appends a clause. The clauses stay where memory has run out.
     #[tactic(auto, using(crate::proofs::Clauses::are_clauses_push))]
     pub fn push(&mut self, clause: Clause) -> Result<(), AllocError>
         ensures ok { OnOk result (self.new ≡ self.old ++ clause ∷ []) }
@@ -56,6 +59,18 @@ impl Cnf {
     {
         clause.known();
         self.clauses.push(clause)?;
+        Ok(())
+    }
+
+    /// Appends the clauses of another formula. The clauses stay where memory has run out.
+    #[tactic(auto, using(crate::proofs::Clauses::are_clauses_append))]
+    pub fn append(&mut self, more: Cnf) -> Result<(), AllocError>
+        ensures ok { OnOk result (self.new ≡ self.old ++ more) }
+        ensures err { OnErr result (self.new ≡ self.old) }
+    {
+        more.known();
+        let mut clauses = more.into_clauses();
+        self.clauses.append(&mut clauses)?;
         Ok(())
     }
 
@@ -67,14 +82,13 @@ impl Cnf {
         clauses
     }
 
+    /// An equal formula with the same allocator.
     pub fn copy(&self) -> Result<Cnf, AllocError>
         ensures { IfOk result (λ cnf. cnf ≡ self.now) }
     {
-        let mut clauses = Vec::new(*self.clauses.allocator());
-        for clause in &self.clauses {
-            clauses.push(clause.copy()?)?;
-        }
-        Ok(Cnf { clauses })
+        Ok(Cnf {
+            clauses: copies_of(&self.clauses)?,
+        })
     }
 
     /// Tells the caller what every list of clauses keeps.
@@ -89,4 +103,15 @@ impl Copies for Cnf {
     fn copy_in(&self, _alloc: Global) -> Result<Self, AllocError> {
         self.copy()
     }
+}
+
+/// Equal clauses in a vector with the same allocator.
+pub(crate) fn copies_of(clauses: &Vec<Clause>) -> Result<Vec<Clause>, AllocError>
+    ensures { IfOk result (λ copies. copies.items ≡ clauses.now.items) }
+{
+    let mut copies = Vec::with_capacity(*clauses.allocator(), clauses.len())?;
+    for clause in clauses {
+        copies.push(clause.copy()?)?;
+    }
+    Ok(copies)
 }

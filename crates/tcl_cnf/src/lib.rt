@@ -18,11 +18,9 @@ pub use clause::Clause;
 pub use cnf::Cnf;
 pub use lit::Lit;
 pub use log::{Log, LogFault, LogLines};
+pub use marks::Marks;
 pub use rows::Rows;
 use tcl_list::Listing;
 
 /// Truth values, numbered from 0.
 pub type Bits = Listing<bool>;
-
-#[cfg(test)]
-mod tests;

@@ -3,7 +3,9 @@
 ghost use Rattle.std.specs.Prelude.{◌≡◌, ◌+◌, ◌*◌, ◌/◌, ◌%◌, ◌^◌, ◌<◌, ◌↔◌, IsTrue};
 ghost use Rattle.tcl_cnf.specs.Literal.{neg};
 
+use std::alloc::{AllocError, Global};
 use std::marker::Model;
+use tcl_list::{Copies, Same};
 
 /// A literal: variable v, or its negation. Variables are numbered from 0 to `2^31 - 1`.
 #[derive(Clone, Copy, PartialEq, Eq, PartialOrd, Ord)]
@@ -42,12 +44,14 @@ impl Lit {
         self.0
     }
 
+    /// The variable of the literal, from 0.
     pub fn variable(self) -> u32
         ensures { result ≡ self / 2 }
     {
         self.0 / 2
     }
 
+    /// Whether it is the negation of its variable.
     pub fn is_negated(self) -> bool
         ensures { IsTrue result ↔ (self % 2 ≡ 1) }
     {
@@ -64,5 +68,23 @@ impl Lit {
         } else {
             Lit(self.0 - 1)
         }
+    }
+}
+
+impl Default for Lit {
+    fn default() -> Self {
+        Lit(0)
+    }
+}
+
+impl Copies for Lit {
+    fn copy_in(&self, _alloc: Global) -> Result<Self, AllocError> {
+        Ok(*self)
+    }
+}
+
+impl Same for Lit {
+    fn same(&self, other: &Self) -> bool {
+        self.0 == other.0
     }
 }

@@ -1,19 +1,21 @@
 // Proof logs under construction: clauses, and the chains that derive them.
 
-ghost use Rattle.std.specs.Prelude.{◌≡◌, ℕ, ◌<◌, ◌≤◌, IfOk, IfSome, OnOk, OnErr, IsErrOf, Some, None, true, length, slice_get, take, drop, List, [], ◌∷◌, ◌++◌};
+ghost use Rattle.std.specs.Prelude.{◌≡◌, ℕ, ◌+◌, ◌<◌, ◌≤◌, IfOk, IfSome, OnOk, OnErr, IsErrOf, Some, None, true, length, slice_get, take, drop, List, [], ◌∷◌, ◌++◌};
 ghost use Rattle.tcl_cnf.specs.Clause.{IsClause, AreClauses, Follows};
 ghost use Rattle.tcl_cnf.specs.Resolution.{chain_of};
 ghost use Rattle.tcl_cnf.specs.Log.{LogState, IsLog, AddsLine, has_empty, log_answer};
+ghost use Rattle.tcl_cnf.specs.FreshLogs.{IsFreshLog, DeriveFresh};
 
 use crate::answer::LogAnswer;
 use crate::clause::Clause;
-use crate::cnf::Cnf;
+use crate::cnf::{self, Cnf};
 use crate::lit::Lit;
 use crate::marks::Marks;
 use crate::resolution::{self, Numbered};
 use crate::rows::Rows;
 use std::alloc::{AllocError, Global};
 use std::marker::Model;
+use tcl_list::Copies;
 
 /// The chains of a proof log, each a list of clause numbers.
 pub type LogLines = Rows<u32>;
@@ -121,8 +123,14 @@ impl Log {
     pub fn seal(self) -> LogLines
         ensures lines { result ≡ self.lines }
 
+        // There is a line for each derived clause.
+        ensures count { length self.clauses ≡ self.given + length result }
+
         // The chains of a log with an empty derived clause are a refutation of its given clauses.
         ensures refutes { has_empty (drop self.given self.clauses) ≡ true → log_answer (take self.given self.clauses) result ≡ LogAnswer.Refutes }
+
+        // The chains of a log of fresh clauses derive those from its formula.
+        ensures fresh { (cnf : List (List ℕ)) (n : ℕ) → IsFreshLog cnf n self → DeriveFresh cnf n result }
     {
         let Log {
             clauses: _,
@@ -133,12 +141,30 @@ impl Log {
         lines
     }
 
+    /// An equal log with the same allocator.
+    pub fn copy(&self) -> Result<Log, AllocError>
+        ensures { IfOk result (λ log. log ≡ self.now) }
+    {
+        Ok(Log {
+            clauses: cnf::copies_of(&self.clauses)?,
+            given: self.given,
+            lines: self.lines.copy()?,
+            marks: Marks::new(*self.clauses.allocator()),
+        })
+    }
+
     /// Tells the caller what every log keeps, and that each of its clauses follows from the given ones.
     pub fn known(&self)
         ensures log { IsLog self.now }
         ensures follows { (k : ℕ) (c : List ℕ) → slice_get self.now.clauses k ≡ Some c → Follows (take self.now.given self.now.clauses) c }
     {
         let _ = &self.lines;
+    }
+}
+
+impl Copies for Log {
+    fn copy_in(&self, _alloc: Global) -> Result<Self, AllocError> {
+        self.copy()
     }
 }
 
@@ -166,7 +192,7 @@ impl Numbered for Vec<Clause> {
     }
 }
 
-// The clause that a chain derives, or none where the list is no chain. The marks are empty afterwards.
+/// The clause that a chain derives, or none where the list is no chain. The marks are empty afterwards.
 fn derived_clause(
     marks: &mut Marks,
     clauses: &Vec<Clause>,
@@ -186,7 +212,7 @@ fn derived_clause(
     }
 }
 
-// The same, where the marks are left as they are after a failure.
+/// The same, where the marks are left as they are after a failure.
 fn take_derived(
     marks: &mut Marks,
     clauses: &Vec<Clause>,
@@ -204,7 +230,7 @@ fn take_derived(
     Ok(Some(Clause::of(lits)))
 }
 
-// Whether some clause is empty.
+/// Whether some clause is empty.
 fn any_empty(clauses: &[Clause]) -> bool
     ensures { result ≡ has_empty clauses.now }
 {

@@ -9,8 +9,11 @@ use crate::lit::Lit;
 use std::alloc::{AllocError, Global};
 use std::marker::Model;
 
-// The marks that are set stand in `touched` too, so that taking the set out looks at no other place of the table. A
-// literal that was taken out and put in again stands there twice.
+/// A set of literals, in which one is looked up, put in and taken out in one step. It is seen as its literals in increasing
+/// order.
+///
+/// The marks that are set stand in `touched` too, so that taking the set out looks at no other place of the table. A
+/// literal that was taken out and put in again stands there twice.
 #[derive(Drop)]
 pub struct Marks {
     table: Vec<bool>,
@@ -48,6 +51,7 @@ impl Marks {
         let _ = &self.table;
     }
 
+    /// Whether the literal is in the set.
     pub fn has(&self, lit: Lit) -> bool
         ensures { result ≡ has lit self.now }
     {
@@ -83,7 +87,7 @@ impl Marks {
     }
 }
 
-// Whether the place of the table is marked; there is no mark past its end.
+/// Whether the place of the table is marked; there is no mark past its end.
 fn is_marked(table: &[bool], place: usize) -> bool
     ensures { result ≡ slice_index_or table.now place false }
 {
@@ -94,7 +98,7 @@ fn is_marked(table: &[bool], place: usize) -> bool
     }
 }
 
-// Marks the place of the number, and puts the number behind the touched ones where it was not marked.
+/// Marks the place of the number, and puts the number behind the touched ones where it was not marked.
 #[tactic(auto, using(crate::proofs::MarkLemmas::marked_same, crate::proofs::MarkLemmas::put_known, crate::proofs::MarkLemmas::put_new))]
 fn mark(table: &mut Vec<bool>, touched: &mut Vec<u32>, number: u32) -> Result<(), AllocError>
     requires { AreTouched table.old.items touched.old.items }
@@ -112,7 +116,7 @@ fn mark(table: &mut Vec<bool>, touched: &mut Vec<u32>, number: u32) -> Result<()
     Ok(())
 }
 
-// Makes the table so long that it has the place.
+/// Makes the table so long that it has the place.
 fn reach(table: &mut Vec<bool>, place: usize) -> Result<(), AllocError>
     requires { place < 2 ^ 32 }
     ensures same { SameMarks table.old.items table.new.items }
@@ -125,7 +129,7 @@ fn reach(table: &mut Vec<bool>, place: usize) -> Result<(), AllocError>
     Ok(())
 }
 
-// Takes the mark from the place, where it is in the table.
+/// Takes the mark from the place, where it is in the table.
 fn unmark(table: &mut Vec<bool>, place: usize)
     ensures { TakesMark table.old.items table.new.items place }
 {
@@ -134,7 +138,7 @@ fn unmark(table: &mut Vec<bool>, place: usize)
     }
 }
 
-// Leaves the marked numbers alone, in increasing order.
+/// Leaves the marked numbers alone, in increasing order.
 fn settle(table: &[bool], touched: &mut Vec<u32>)
     requires { AreTouched table.now touched.old.items }
     ensures { touched.new.items ≡ marked table.now }
@@ -144,6 +148,7 @@ fn settle(table: &[bool], touched: &mut Vec<u32>)
     touched.dedup();
 }
 
+/// The literals of these numbers.
 fn lits_of(alloc: Global, numbers: &[u32]) -> Result<Vec<Lit>, AllocError>
     ensures { IfOk result (λ lits. lits.items ≡ numbers.now) }
 {
@@ -154,7 +159,7 @@ fn lits_of(alloc: Global, numbers: &[u32]) -> Result<Vec<Lit>, AllocError>
     Ok(lits)
 }
 
-// Takes all marks away.
+/// Takes all marks away.
 fn clear(table: &mut Vec<bool>, touched: &[u32])
     requires { AreTouched table.old.items touched.now }
     ensures { AreTouched table.new.items [] }

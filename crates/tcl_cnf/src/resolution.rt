@@ -44,7 +44,7 @@ pub fn derive<C: Numbered>(
     Ok(true)
 }
 
-// Puts the literals of the first clause into the marks.
+/// Puts the literals of the first clause into the marks.
 #[tactic(auto, using(crate::proofs::Clauses::union_more))]
 fn start(marks: &mut Marks, lits: &[Lit]) -> Result<(), AllocError>
     requires empty { marks.old ≡ [] }
@@ -57,7 +57,7 @@ fn start(marks: &mut Marks, lits: &[Lit]) -> Result<(), AllocError>
     Ok(())
 }
 
-// Resolves the clause in the marks with the one of this number. The answer is whether there is a resolvent.
+/// Resolves the clause in the marks with the one of this number. The answer is whether there is a resolvent.
 fn step<C: Numbered>(marks: &mut Marks, clauses: &C, number: u32) -> Result<bool, AllocError>
     requires { AreClauses (C.clauses clauses.now) }
     ensures { IfOk result (λ done. MatchBool done (join_step (Some marks.old) (slice_get (C.clauses clauses.now) number) ≡ Some marks.new) (join_step (Some marks.old) (slice_get (C.clauses clauses.now) number) ≡ None)) }
@@ -68,8 +68,8 @@ fn step<C: Numbered>(marks: &mut Marks, clauses: &C, number: u32) -> Result<bool
     resolve(marks, lits)
 }
 
-// Resolves the clause in the marks with another one. The answer is whether they clash at exactly one literal; where
-// they do not, the marks stay.
+/// Resolves the clause in the marks with another one. The answer is whether they clash at exactly one literal; where
+/// they do not, the marks stay.
 fn resolve(marks: &mut Marks, lits: &[Lit]) -> Result<bool, AllocError>
     requires { IsIncreasing lits.now }
     ensures { IfOk result (λ done. MatchBool done (join marks.old lits.now ≡ Some marks.new) (join marks.old lits.now ≡ None)) }
@@ -83,7 +83,7 @@ fn resolve(marks: &mut Marks, lits: &[Lit]) -> Result<bool, AllocError>
     Ok(true)
 }
 
-// Puts all literals but this one into the marks.
+/// Puts all literals but this one into the marks.
 #[tactic(auto, using(crate::proofs::ResolutionLemmas::others_more))]
 fn add_others(marks: &mut Marks, lits: &[Lit], pivot: Lit) -> Result<(), AllocError>
     ensures { OnOk result (marks.new ≡ union marks.old (without pivot lits.now)) }
@@ -94,7 +94,7 @@ fn add_others(marks: &mut Marks, lits: &[Lit], pivot: Lit) -> Result<(), AllocEr
     Ok(())
 }
 
-// Puts the literal into the marks, if it is not this one.
+/// Puts the literal into the marks, if it is not this one.
 fn add_other(marks: &mut Marks, lit: Lit, pivot: Lit) -> Result<(), AllocError>
     ensures { OnOk result (marks.new ≡ (if lit == pivot then marks.old else put lit marks.old)) }
 {
@@ -104,7 +104,7 @@ fn add_other(marks: &mut Marks, lit: Lit, pivot: Lit) -> Result<(), AllocError>
     Ok(())
 }
 
-// The literal whose negation is marked, if there is exactly one.
+/// The literal whose negation is marked, if there is exactly one.
 fn single_clash(marks: &Marks, lits: &[Lit]) -> Option<Lit>
     ensures { MatchOption result ((l : ℕ) → clashes lits.now marks.now ≡ l ∷ [] → ⊥) (λ lit. clashes lits.now marks.now ≡ lit ∷ []) }
 {

@@ -43,12 +43,14 @@ impl<T: Copy> Rows<T> {
         }
     }
 
+    /// The number of lists.
     pub fn len(&self) -> usize
         ensures { result ≡ length self.now }
     {
         self.ends.as_slice().len()
     }
 
+    /// Whether there is no list.
     pub fn is_empty(&self) -> bool
         ensures { IsTrue result ↔ (self.now ≡ []) }
     {
@@ -93,7 +95,7 @@ impl<T: Copy> Copies for Rows<T> {
     }
 }
 
-// The list of this number.
+/// The list of this number.
 fn range_of<'a, T: Copy>(items: &'a [T], ends: &[usize], k: usize) -> &'a [T]
     requires ends { AreEnds 0 ends.now (length items.now) }
     requires within { k < length ends.now }
@@ -103,7 +105,7 @@ fn range_of<'a, T: Copy>(items: &'a [T], ends: &[usize], k: usize) -> &'a [T]
     part(items, start, ends[k])
 }
 
-// The items from one place up to another.
+/// The items from one place up to another.
 fn part<T: Copy>(items: &[T], start: usize, end: usize) -> &[T]
     requires rises { start ≤ end }
     requires within { end ≤ length items.now }
@@ -112,7 +114,7 @@ fn part<T: Copy>(items: &[T], start: usize, end: usize) -> &[T]
     &items[start..end]
 }
 
-// Where the list of this number starts.
+/// Where the list of this number starts.
 fn row_start(ends: &[usize], k: usize) -> usize
     requires { k ≤ length ends.now }
     ensures { result ≡ row_start ends.now k }

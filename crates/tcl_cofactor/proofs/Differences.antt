@@ -7,7 +7,7 @@ use Rattle.tcl_poly.proofs.MonomialLaws.{order_says, order_same, OrderSays, less
 use Rattle.tcl_poly.proofs.Canonical.{no_coefficient, first_coefficient, under_chain}
 use Rattle.tcl_poly.proofs.FactorLists.{past_end}
 use Rattle.tcl_poly.proofs.TermLists.{terms_at, polynomial_from}
-use Rattle.tcl_cofactor.specs.Combination.{IsGreatestDifference}
+use Rattle.tcl_cofactor.specs.Comparison.{IsGreatestDifference}
 
 -- the order as a fact
 less_from : (m n : Monomial) → IsMonomial m → IsMonomial n → Less ≡ order m n → IsLess m n

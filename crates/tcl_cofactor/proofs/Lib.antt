@@ -1,2 +1,1 @@
-pub mod Combinations
 pub mod Differences

@@ -1,1 +1,1 @@
-pub mod Combination
+pub mod Comparison

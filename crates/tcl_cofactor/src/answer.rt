@@ -3,7 +3,8 @@
 ghost use Rattle.std.specs.Prelude.{map, ℕ};
 ghost use Rattle.tcl_ring.specs.Reduction as r;
 ghost use Rattle.tcl_poly.specs.Polynomial as p;
-ghost use Rattle.tcl_cofactor.specs.Combination.{AreOver, AreCofactors, IsComparison, combination_of, weight_of};
+ghost use Rattle.tcl_poly.specs.Combination.{AreOver, AreCofactors, combination_of, weight_of};
+ghost use Rattle.tcl_cofactor.specs.Comparison.{IsComparison};
 
 use crate::combination::{combine, weight};
 use crate::difference::first_difference;

@@ -3,11 +3,11 @@
 ghost use Rattle.std.specs.Prelude.{◌≡◌, ℕ, ◌+◌, ◌*◌, ◌≤◌, ◌^◌, map, min, false, IfOk};
 ghost use Rattle.tcl_ring.specs.Reduction as r;
 ghost use Rattle.tcl_poly.specs.Polynomial as p;
-ghost use Rattle.tcl_cofactor.specs.Combination.{AreOver, AreCofactors, combination_of, weight_of};
+ghost use Rattle.tcl_poly.specs.Combination.{AreOver, AreCofactors, combination_of, weight_of};
 
 use std::alloc::{AllocError, Global};
 use tcl_num::{saturating_product, saturating_sum};
-use tcl_poly::{Cofactor, Poly, PolyFault, add, mul, norm_of_terms, terms, zero};
+use tcl_poly::{Cofactor, Poly, norm_of_terms, product, sum, terms, zero};
 use tcl_ring::Ring;
 
 // The magnitude at which norms stop.
@@ -52,34 +52,26 @@ pub(crate) fn combine<R: Ring>(
         k -= 1;
         let cofactor: &Cofactor<R> = &cofactors[k];
         let equation: &Poly<R> = &equations[cofactor.equation as usize];
-        sum = add_product(ring, &cofactor.poly, equation, &sum)?;
+        sum = add_product(ring, &cofactor.poly, equation, sum)?;
     }
     Ok(sum)
 }
 
-// A product and a sum that are known to fit.
+// A product and the sum with what is there.
 fn add_product<R: Ring>(
     ring: &R,
     a: &Poly<R>,
     b: &Poly<R>,
-    sum: &Poly<R>,
+    total: Poly<R>,
 ) -> Result<Poly<R>, AllocError>
     requires first { p.IsOver (R.modulus_of ring.now) (R.amount ring.now) a.now }
     requires second { p.IsOver (R.modulus_of ring.now) (R.amount ring.now) b.now }
-    requires third { p.IsOver (R.modulus_of ring.now) (R.amount ring.now) sum.now }
+    requires third { p.IsOver (R.modulus_of ring.now) (R.amount ring.now) total }
     requires degrees { p.degree_of a.now + p.degree_of b.now ≤ 1024 }
     requires product_fits { r.is_wide (R.modulus_of ring.now) (p.norm_of (p.terms_of (R.amount ring.now) a.now) * p.norm_of (p.terms_of (R.amount ring.now) b.now)) ≡ false }
-    requires sum_fits { r.is_wide (R.modulus_of ring.now) (p.norm_of (p.product_of (r.reduced_by (R.modulus_of ring.now)) (p.terms_of (R.amount ring.now) a.now) (p.terms_of (R.amount ring.now) b.now)) + p.norm_of (p.terms_of (R.amount ring.now) sum.now)) ≡ false }
-    ensures { IfOk result (λ s. p.terms_of (R.amount ring.now) s ≡ p.sum_of (r.reduced_by (R.modulus_of ring.now)) (p.product_of (r.reduced_by (R.modulus_of ring.now)) (p.terms_of (R.amount ring.now) a.now) (p.terms_of (R.amount ring.now) b.now)) (p.terms_of (R.amount ring.now) sum.now)) }
+    requires sum_fits { r.is_wide (R.modulus_of ring.now) (p.norm_of (p.product_of (r.reduced_by (R.modulus_of ring.now)) (p.terms_of (R.amount ring.now) a.now) (p.terms_of (R.amount ring.now) b.now)) + p.norm_of (p.terms_of (R.amount ring.now) total)) ≡ false }
+    ensures { IfOk result (λ s. p.terms_of (R.amount ring.now) s ≡ p.sum_of (r.reduced_by (R.modulus_of ring.now)) (p.product_of (r.reduced_by (R.modulus_of ring.now)) (p.terms_of (R.amount ring.now) a.now) (p.terms_of (R.amount ring.now) b.now)) (p.terms_of (R.amount ring.now) total)) }
 {
-    let product = match mul(ring, a, b) {
-        Ok(product) => product,
-        Err(PolyFault::Memory) => return Err(AllocError),
-        Err(PolyFault::Wide) => unreachable!(),
-    };
-    match add(ring, &product, sum) {
-        Ok(sum) => Ok(sum),
-        Err(PolyFault::Memory) => Err(AllocError),
-        Err(PolyFault::Wide) => unreachable!(),
-    }
+    let row = product(ring, a, b)?;
+    sum(ring, row, total)
 }

@@ -2,7 +2,7 @@
 
 ghost use Rattle.std.specs.Prelude.{◌≡◌, MatchBool, MatchOption, IfOk};
 ghost use Rattle.tcl_poly.specs.Polynomial as p;
-ghost use Rattle.tcl_cofactor.specs.Combination.{IsGreatestDifference};
+ghost use Rattle.tcl_cofactor.specs.Comparison.{IsGreatestDifference};
 
 use std::alloc::AllocError;
 use std::cmp::Ordering;

@@ -6,6 +6,3 @@ mod combination;
 mod difference;
 
 pub use answer::{CofactorAnswer, check_cofactors};
-
-#[cfg(test)]
-mod tests;

@@ -6,8 +6,9 @@ use Rattle.std.proofs.lemmas.Option.{slice_get_within, get_or_from_slice_get}
 use Rattle.tcl_cnf.specs.Literal.{neg, literal_true}
 use Rattle.tcl_cnf.specs.Clause.{clause_of}
 use Rattle.tcl_cnf.proofs.Truth.{kept}
-use Rattle.tcl_gates.specs.Gates.{gate_table, clauses_of_table, clauses_from, clauses_of, values_from, values_of, next_value, bits_behind}
+use Rattle.tcl_gates.specs.Gates.{gate_table, clauses_of_table, clauses_from, clauses_behind, clauses_of, values_from, values_of, next_value, bits_behind}
 use Rattle.tcl_gates.proofs.Values.{values_from-none, values_from-cons}
+use Rattle.tcl_gates.proofs.Appending.{clauses_of-behind}
 use Rattle.tcl_gates.specs.declared.gate.Gate.{Gate}
 use Rattle.tcl_gates.specs.declared.gate.Gate.TheVariants.{And, Xor, Major, Choice, Free}
 
@@ -87,14 +88,15 @@ unit_zero : kept (0 ∷ []) ≡ (0 ∷ []) ∷ []
 unfolding clause_of neg
 unit_zero = refl
 
-clauses_of-cons : (gates : List Gate) → clauses_of gates ≡ ((0 ∷ []) ∷ []) ++ clauses_from 1 gates
-unfolding clauses_of
-clauses_of-cons gates = refl
+-- the first clause, and those of all gates behind it
+pub clauses_made : (start first_made made : List (List ℕ)) (first : ℕ) (gates : List Gate) → start ≡ [] → first ≡ 2 * 0 → first_made ≡ start ++ kept (first ∷ []) → made ≡ first_made ++ clauses_behind 0 gates → made ≡ clauses_of gates
+clauses_made start first_made made first gates s z e f =
+    f ∙ ap (λ t. t ++ clauses_behind 0 gates) (e ∙ ap (λ t. t ++ kept (first ∷ [])) s ∙ ap (λ n. kept (n ∷ [])) z ∙ unit_zero) ∙ sym (clauses_of-behind gates)
 
--- the first clause is made
-pub clauses_begun : (start cnf : List (List ℕ)) (first : ℕ) (gates : List Gate) → start ≡ [] → first ≡ 2 * 0 → cnf ≡ start ++ kept (first ∷ []) → cnf ++ clauses_from (0 + 1) (drop 0 gates) ≡ clauses_of gates
-clauses_begun start cnf first gates s z e =
-    ap (λ t. t ++ clauses_from 1 gates) (e ∙ ap (λ t. t ++ kept (first ∷ [])) s ∙ ap (λ n. kept (n ∷ [])) z ∙ unit_zero) ∙ sym (clauses_of-cons gates)
+-- no gate's clauses are made yet
+pub clauses_begun : (cnf : List (List ℕ)) (from : ℕ) (gates : List Gate) → cnf ++ clauses_from (from + 1) (drop from gates) ≡ cnf ++ clauses_behind from gates
+unfolding clauses_behind
+clauses_begun cnf from gates = refl
 
 -- what is left from an entry on
 drop-at : {A : Type 0} (xs : List A) (k : ℕ) (x : A) → slice_get xs k ≡ Some x → drop k xs ≡ x ∷ drop (k + 1) xs

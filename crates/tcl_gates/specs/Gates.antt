@@ -4,6 +4,7 @@ use Rattle.std.specs.Prelude.{◌≡◌, ℕ, ◌+◌, ◌*◌, ◌/◌, ◌<◌
 use Rattle.std.specs.List.{flat_map}
 use Rattle.std.specs.Option.{option_to_list}
 use Rattle.tcl_cnf.specs.Literal.{neg, literal_true}
+pub use Rattle.tcl_cnf.specs.Literal.{value_at}
 use Rattle.tcl_cnf.specs.Clause.{clause_of}
 use Rattle.tcl_gates.specs.declared.gate.Gate.{Gate}
 use Rattle.tcl_gates.specs.declared.gate.Gate.TheVariants.{And, Xor, Major, Choice, Free}
@@ -31,6 +32,10 @@ clauses_from n (gate ∷ gates) = clauses_of_table (gate_table (2 * n) gate) ++ 
 unfoldable pub clauses_of : List Gate → List (List ℕ)
 clauses_of gates = (0 ∷ []) ∷ clauses_from 1 gates
 
+-- the clauses of the gates from number `from` on, counted from 0
+unfoldable pub clauses_behind : ℕ → List Gate → List (List ℕ)
+clauses_behind from gates = clauses_from (from + 1) (drop from gates)
+
 -- the majority of three truth values
 abbrev pub majority : Bool → Bool → Bool → Bool
 majority x y z = (x && y) || ((x && z) || (y && z))
@@ -50,10 +55,6 @@ is_free (And a b) = false
 is_free (Xor a b) = false
 is_free (Major a b c) = false
 is_free (Choice c a b) = false
-
--- the values of the variables that the list names, and false for the others
-abbrev pub value_at : List Bool → ℕ → Bool
-value_at values k = slice_index_or values k false
 
 -- the value of the next gate's variable, where the free variables still to come take these bits
 abbrev pub next_value : List Bool → List Bool → Gate → Bool
@@ -96,6 +97,10 @@ free_of v gates = free_from v 1 gates
 -- the values extend their own bits of the free variables by the values of the gates
 pub record ExtendsFree (v : ℕ → Bool) (gates : List Gate) : Type 0 where
   pub each : (k : ℕ) → k ≤ length gates → v k ≡ value_at (values_of gates (free_of v gates)) k
+
+-- the first n gates are free
+pub record BeginsFree (n : ℕ) (gates : List Gate) : Type 0 where
+  pub each : (k : ℕ) → k < n → slice_get gates k ≡ Some Free
 
 -- how many gates are free
 unfoldable pub free_count : List Gate → ℕ

@@ -1,9 +1,9 @@
 // The clauses of a circuit, by Tseitin's encoding.
 
-ghost use Rattle.std.specs.Prelude.{◌≡◌, ℕ, ◌*◌, ◌+◌, ◌<◌, ◌↔◌, Bool, IfOk, OnOk, length, take, List, [], ◌∷◌, ◌++◌};
+ghost use Rattle.std.specs.Prelude.{◌≡◌, ℕ, ◌*◌, ◌+◌, ◌<◌, ◌↔◌, Bool, IfOk, OnOk, OnErr, length, take, List, [], ◌∷◌, ◌++◌};
 ghost use Rattle.std.specs.Option.{option_to_list};
 ghost use Rattle.tcl_cnf.specs.Clause.{clause_of, Satisfies};
-ghost use Rattle.tcl_gates.specs.Gates.{clauses_of, clauses_of_table, gate_table, ExtendsFree};
+ghost use Rattle.tcl_gates.specs.Gates.{clauses_of, clauses_behind, clauses_of_table, gate_table, ExtendsFree};
 
 use crate::gate::Gate;
 use crate::gates::Gates;
@@ -21,13 +21,38 @@ pub fn clauses_of_gates(alloc: Global, gates: &Gates) -> Result<Cnf, AllocError>
     gates.known();
     let mut cnf = Cnf::new(alloc);
     add_clause(alloc, &mut cnf, &[Lit::of(0)])?;
-    for k in 0..gates.len() {
-        add_gate(alloc, &mut cnf, Lit::of(k as u32 + 1), gates.at(k))?;
-    }
+    add_gates(alloc, &mut cnf, gates, 0)?;
     Ok(cnf)
 }
 
-// Adds the clauses that make the literal stand for the gate's value.
+/// Appends the clauses of the gates from number `from` on, counted from 0, in the order of the gates. The formula stays
+/// where memory has run out.
+pub fn append_clauses(
+    alloc: Global,
+    cnf: &mut Cnf,
+    gates: &Gates,
+    from: usize,
+) -> Result<(), AllocError>
+    ensures ok { OnOk result (cnf.new ≡ cnf.old ++ clauses_behind from gates.now) }
+    ensures err { OnErr result (cnf.new ≡ cnf.old) }
+{
+    let mut more = Cnf::new(alloc);
+    add_gates(alloc, &mut more, gates, from)?;
+    cnf.append(more)
+}
+
+/// Adds the clauses of the gates from a number on.
+fn add_gates(alloc: Global, cnf: &mut Cnf, gates: &Gates, from: usize) -> Result<(), AllocError>
+    ensures { OnOk result (cnf.new ≡ cnf.old ++ clauses_behind from gates.now) }
+{
+    gates.known();
+    for k in from..gates.len() {
+        add_gate(alloc, cnf, Lit::of(k as u32 + 1), gates.at(k))?;
+    }
+    Ok(())
+}
+
+/// Adds the clauses that make the literal stand for the gate's value.
 fn add_gate(alloc: Global, cnf: &mut Cnf, lit: Lit, gate: &Gate) -> Result<(), AllocError>
     ensures { OnOk result (cnf.new ≡ cnf.old ++ clauses_of_table (gate_table lit gate.now)) }
 {
@@ -40,6 +65,7 @@ fn add_gate(alloc: Global, cnf: &mut Cnf, lit: Lit, gate: &Gate) -> Result<(), A
     }
 }
 
+/// Adds the clauses that make a literal true where two others are.
 fn add_and(alloc: Global, cnf: &mut Cnf, g: Lit, a: Lit, b: Lit) -> Result<(), AllocError>
     ensures { OnOk result (cnf.new ≡ cnf.old ++ clauses_of_table (gate_table g (Gate.And a b))) }
 {
@@ -52,6 +78,7 @@ fn add_and(alloc: Global, cnf: &mut Cnf, g: Lit, a: Lit, b: Lit) -> Result<(), A
     Ok(())
 }
 
+/// Adds the clauses that make a literal true where exactly one of two others is.
 fn add_xor(alloc: Global, cnf: &mut Cnf, g: Lit, a: Lit, b: Lit) -> Result<(), AllocError>
     ensures { OnOk result (cnf.new ≡ cnf.old ++ clauses_of_table (gate_table g (Gate.Xor a b))) }
 {
@@ -65,6 +92,7 @@ fn add_xor(alloc: Global, cnf: &mut Cnf, g: Lit, a: Lit, b: Lit) -> Result<(), A
     Ok(())
 }
 
+/// Adds the clauses that make a literal true where at least two of three others are.
 fn add_major(alloc: Global, cnf: &mut Cnf, g: Lit, a: Lit, b: Lit, c: Lit) -> Result<(), AllocError>
     ensures { OnOk result (cnf.new ≡ cnf.old ++ clauses_of_table (gate_table g (Gate.Major a b c))) }
 {
@@ -81,6 +109,7 @@ fn add_major(alloc: Global, cnf: &mut Cnf, g: Lit, a: Lit, b: Lit, c: Lit) -> Re
     Ok(())
 }
 
+/// Adds the clauses that give a literal the value of one of two others, by a third.
 fn add_choice(
     alloc: Global,
     cnf: &mut Cnf,
@@ -102,7 +131,7 @@ fn add_choice(
     Ok(())
 }
 
-// Adds the clause of these literals, unless it is always true.
+/// Adds the clause of these literals, unless it is always true.
 fn add_clause(alloc: Global, cnf: &mut Cnf, lits: &[Lit]) -> Result<(), AllocError>
     ensures { OnOk result (cnf.new ≡ cnf.old ++ option_to_list (clause_of lits.now)) }
 {

@@ -29,7 +29,7 @@ pub fn value_of(alloc: Global, gates: &Gates, free: &[bool]) -> Result<Bits, All
     Ok(Bits::from_vec(values))
 }
 
-// How many free bits the gate takes.
+/// How many free bits the gate takes.
 fn bits_used(gate: &Gate) -> usize
     ensures few { result ≤ 1 }
     ensures behind { (free : List Bool) → bits_behind free gate.now ≡ drop result free }
@@ -43,7 +43,7 @@ fn bits_used(gate: &Gate) -> usize
     }
 }
 
-// The value of the next gate's variable, where this free bit is the next one.
+/// The value of the next gate's variable, where this free bit is the next one.
 fn value_of_gate(values: &[bool], free: &[bool], next: usize, gate: &Gate) -> bool
     requires { IsBelow (length values.now) gate.now }
     ensures { result ≡ next_value values.now (drop next free.now) gate.now }
@@ -67,7 +67,7 @@ fn value_of_gate(values: &[bool], free: &[bool], next: usize, gate: &Gate) -> bo
     }
 }
 
-// The literal's value by those of the variables.
+/// The literal's value by those of the variables.
 fn is_true(values: &[bool], lit: Lit) -> bool
     requires { lit / 2 < length values.now }
     ensures { result ≡ literal_true (value_at values.now) lit }
@@ -76,7 +76,7 @@ fn is_true(values: &[bool], lit: Lit) -> bool
     if lit.is_negated() { !value } else { value }
 }
 
-// The bit at the place, and false behind the last one.
+/// The bit at the place, and false behind the last one.
 fn bit_at(bits: &[bool], place: usize) -> bool
     ensures { result ≡ slice_index_or (drop place bits.now) 0 false }
 {
@@ -87,12 +87,14 @@ fn bit_at(bits: &[bool], place: usize) -> bool
     }
 }
 
+/// Whether exactly one of the two is true.
 fn exclusive(a: bool, b: bool) -> bool
     ensures { result ≡ (if a then not b else b) }
 {
     if a { !b } else { b }
 }
 
+/// Whether at least two of the three are true.
 fn majority(a: bool, b: bool, c: bool) -> bool
     ensures { result ≡ majority a b c }
 {

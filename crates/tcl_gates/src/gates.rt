@@ -31,6 +31,7 @@ impl Model for Gates {
 }
 
 impl Gates {
+    /// The circuit with no gate, of variable 0 alone; takes no memory.
     pub fn new(alloc: Global) -> Gates
         ensures { result ≡ [] }
     {
@@ -39,6 +40,7 @@ impl Gates {
         }
     }
 
+    /// The number of gates, which is the greatest variable's number.
     pub fn len(&self) -> usize
         ensures { result ≡ length self.now }
     {
@@ -69,6 +71,7 @@ impl Gates {
         Ok(Lit::of(count as u32 + 1))
     }
 
+    /// An equal circuit with the same allocator.
     pub fn copy(&self) -> Result<Gates, AllocError>
         ensures { IfOk result (λ copy. copy ≡ self.now) }
     {

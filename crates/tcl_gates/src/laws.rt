@@ -1,8 +1,8 @@
 // What follows from the definitions alone. The functions do nothing: their contracts are the laws.
 
-ghost use Rattle.std.specs.Prelude.{◌≡◌, ℕ, ◌+◌, ◌*◌, ◌/◌, ◌≤◌, Bool, false, List, [], ◌∷◌, ◌++◌, length};
-ghost use Rattle.tcl_cnf.specs.Literal.{literal_true};
-ghost use Rattle.tcl_gates.specs.Gates.{value_at, values_of, gate_value, is_free, IsBelow, clauses_of_table, gate_table};
+ghost use Rattle.std.specs.Prelude.{◌≡◌, ℕ, ◌+◌, ◌*◌, ◌/◌, ◌<◌, ◌≤◌, Bool, false, List, [], ◌∷◌, ◌++◌, length};
+ghost use Rattle.tcl_cnf.specs.Literal.{literal_true, value_at};
+ghost use Rattle.tcl_gates.specs.Gates.{values_of, gate_value, is_free, IsBelow, BeginsFree, clauses_of, clauses_behind, clauses_of_table, gate_table};
 ghost use Rattle.tcl_gates.specs.declared.gate.Gate.{Gate};
 
 /// Gates that are appended change no older literal's value.
@@ -18,4 +18,14 @@ pub fn a_new_gate_has_its_value()
 /// A gate that is not free gives at least two clauses, whatever its literals are.
 pub fn a_gate_gives_two_clauses()
     ensures { (n : ℕ) (gate : Gate) → is_free gate ≡ false → IsBelow n gate → 2 ≤ length (clauses_of_table (gate_table (2 * n) gate)) }
+{}
+
+/// Where the first n gates are free, variable `k + 1` has free bit k, for each k below n.
+pub fn leading_free_gates_have_their_bits()
+    ensures { (n k : ℕ) (gates : List Gate) (free : List Bool) → BeginsFree n gates → k < n → value_at (values_of gates free) (k + 1) ≡ value_at free k }
+{}
+
+/// The clauses of more gates stand behind those of the gates before them.
+pub fn clauses_of_more_gates_stand_behind()
+    ensures { (gates more : List Gate) → clauses_of (gates ++ more) ≡ clauses_of gates ++ clauses_behind (length gates) (gates ++ more) }
 {}

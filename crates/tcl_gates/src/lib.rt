@@ -7,10 +7,7 @@ mod gate;
 mod gates;
 pub mod laws;
 
-pub use encoding::clauses_of_gates;
+pub use encoding::{append_clauses, clauses_of_gates};
 pub use evaluation::value_of;
 pub use gate::Gate;
 pub use gates::Gates;
-
-#[cfg(test)]
-mod tests;

@@ -28,6 +28,3 @@ pub use sink::{Put, Sink};
 pub use source::{Source, Taken};
 pub use std_streams::{StdSink, StdSource};
 pub use writing::{WriteFault, write_all};
-
-#[cfg(test)]
-mod tests;

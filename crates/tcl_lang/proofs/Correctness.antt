@@ -184,7 +184,7 @@ no_counterexample_correct names lines none input fits meets k goal keeps =
     goals_hold names lines input (none input) fits meets (suc k) k (omega arith) goal keeps
 
 -- a later place has no fewer goals before it, and the goals up to a goal are one more
-goals_grow : (lines : List Line) (k n : ℕ) → goals_before lines k ≤ goals_before lines (k + n)
+pub goals_grow : (lines : List Line) (k n : ℕ) → goals_before lines k ≤ goals_before lines (k + n)
 goals_grow lines k zero =
     let same : k ≡ k + 0 = omega arith in
     let counts = ap (goals_before lines) same in omega arith
@@ -196,7 +196,7 @@ goals_grow lines k (suc n) = elim (slice_get_cases lines (k + n)).1 [
     next : k + suc n ≡ (k + n) + 1
     next = omega arith
 
-goal_counts : (lines : List Line) (k : ℕ) → is_goal_at lines k ≡ true → goals_before lines (k + 1) ≡ goals_before lines k + 1
+pub goal_counts : (lines : List Line) (k : ℕ) → is_goal_at lines k ≡ true → goals_before lines (k + 1) ≡ goals_before lines k + 1
 goal_counts lines k p =
     let g = goal_line lines k p in
     goals_go lines k g.0 g.1 ∙ ap (λ b. goals_before lines k + one_if b) g.2

@@ -14,17 +14,17 @@ use Rattle.tcl_lang.specs.declared.outcome.Truth.TheVariants.{Yes, No, Wide}
 use Rattle.tcl_lang.specs.declared.ty.Word.{Word}
 use Rattle.tcl_lang.specs.declared.term.Term.{Term}
 use Rattle.tcl_lang.specs.declared.term.Part.{Part}
+use Rattle.tcl_lang.specs.declared.instr.Instr.{Instr}
 use Rattle.tcl_lang.specs.declared.pred.Pred.{Pred}
 use Rattle.tcl_lang.specs.declared.pred.Pred.TheVariants.{Alg, Rng}
 use Rattle.tcl_lang.specs.declared.pred.Line.{Line}
-use Rattle.tcl_lang.specs.declared.pred.Line.TheVariants.{Input, Pre, Step, Assert, Assume, Cut, Post}
 use Rattle.tcl_lang.specs.Term.{term_value}
 use Rattle.tcl_lang.specs.Modulus.{modulus_value, is_wide_modulus}
 use Rattle.tcl_lang.specs.Range.{range_truth}
 use Rattle.tcl_lang.specs.Predicate.{Agrees, agrees, predicate_truth}
-use Rattle.tcl_lang.specs.Bound.{size_of, equation_size, size_end}
-use Rattle.tcl_lang.specs.Line.{line_truth}
-use Rattle.tcl_lang.specs.Truth.{yes_or_no, equation_truth, predicate_computed, line_computed}
+use Rattle.tcl_lang.specs.Bound.{size_in, equation_size, size_end}
+use Rattle.tcl_lang.specs.Line.{predicate_of, instruction_of, instruction_truth, stated_truth, line_truth}
+use Rattle.tcl_lang.specs.Truth.{yes_or_no, equation_truth, predicate_computed, stated_computed, line_computed}
 use Rattle.tcl_lang.specs.Run.{Fits, taken_types, store_at}
 use Rattle.tcl_lang.specs.Goal.{truth_in, truth_at}
 use Rattle.tcl_lang.specs.Correct.{IsCounterexample}
@@ -55,10 +55,10 @@ equal_sides store f g v t s =
     let d = is_multiple_sound (pos (2 ^ 128)) (term_value store f -ℤ term_value store g) t in
     zero_apart (2 ^ 128) (2 ^ 126) (pow_below 126 128 (omega arith)) d.0 d.1 (below (2 ^ 126) s)
   where
-    below : (e : ℕ) → nat_lt (min (size_of store f + size_of store g) e) e ≡ true → size_of store f + size_of store g < e
-    below e t = omega (arith, ltb-true (min (size_of store f + size_of store g) e) e t)
+    below : (e : ℕ) → nat_lt (min (size_in store f + size_in store g) e) e ≡ true → size_in store f + size_in store g < e
+    below e t = omega (arith, ltb-true (min (size_in store f + size_in store g) e) e t)
 
-    zero_apart : (m e : ℕ) → e < m → (k : ℤ) → term_value store f -ℤ term_value store g ≡ pos m *ℤ k → size_of store f + size_of store g < e → term_value store f ≡ term_value store g
+    zero_apart : (m e : ℕ) → e < m → (k : ℤ) → term_value store f -ℤ term_value store g ≡ pos m *ℤ k → size_in store f + size_in store g < e → term_value store f ≡ term_value store g
     zero_apart m e less k split small =
         let x = term_value store f in let y = term_value store g in
         let bound = unsigned_abs_add x (neg_ℤ y) in
@@ -114,7 +114,7 @@ equation_no store f g None e = apart (term_value store f) (term_value store g) (
         zero_of t = let same = (Decides-int_eq x y).0 t in omega (arith, ints, same)
 equation_no store f g (Some m) e = wide_no (is_wide_modulus m) _ e
 
--- of a predicate, of a line, and of a place of a run
+-- of a predicate
 predicate_yes : (store : List Word) (p : Pred) → HoldsValues store → predicate_computed store p ≡ Yes → predicate_truth store p ≡ true
 predicate_yes store (Alg p) v e = equation_yes store p.left p.right p.modulus v e
 predicate_yes store (Rng p) v e = test_yes (range_truth store p) e
@@ -123,23 +123,22 @@ predicate_no : (store : List Word) (p : Pred) → predicate_computed store p ≡
 predicate_no store (Alg p) e = equation_no store p.left p.right p.modulus e
 predicate_no store (Rng p) e = test_no (range_truth store p) e
 
+-- of what is stated, and so of a line
+stated_yes : (store : List Word) (s : Option Pred) (i : Option Instr) → HoldsValues store → stated_computed store s i ≡ Yes → stated_truth store s i ≡ true
+stated_yes store (Some p) i v e = predicate_yes store p v e
+stated_yes store None (Some i) v e = test_yes (instruction_truth store i) e
+stated_yes store None None v e = refl
+
+stated_no : (store : List Word) (s : Option Pred) (i : Option Instr) → stated_computed store s i ≡ No → stated_truth store s i ≡ false
+stated_no store (Some p) i e = predicate_no store p e
+stated_no store None (Some i) e = test_no (instruction_truth store i) e
+stated_no store None None e = absurd (cc)
+
 pub line_yes : (store : List Word) (l : Line) → HoldsValues store → line_computed store l ≡ Yes → line_truth store l ≡ true
-line_yes store (Input T name) v e = refl
-line_yes store (Pre p) v e = predicate_yes store p v e
-line_yes store (Step i) v e = test_yes (line_truth store (Step i)) e
-line_yes store (Assert p) v e = predicate_yes store p v e
-line_yes store (Assume p) v e = predicate_yes store p v e
-line_yes store (Cut p) v e = predicate_yes store p v e
-line_yes store (Post p) v e = predicate_yes store p v e
+line_yes store l v e = stated_yes store (predicate_of l) (instruction_of l) v e
 
 pub line_no : (store : List Word) (l : Line) → line_computed store l ≡ No → line_truth store l ≡ false
-line_no store (Input T name) e = absurd (cc)
-line_no store (Pre p) e = predicate_no store p e
-line_no store (Step i) e = test_no (line_truth store (Step i)) e
-line_no store (Assert p) e = predicate_no store p e
-line_no store (Assume p) e = predicate_no store p e
-line_no store (Cut p) e = predicate_no store p e
-line_no store (Post p) e = predicate_no store p e
+line_no store l e = stated_no store (predicate_of l) (instruction_of l) e
 
 yes_in : (store : List Word) (o : Option Line) → HoldsValues store → computed_in store o ≡ Yes → truth_in store o ≡ true
 yes_in store None v e = refl

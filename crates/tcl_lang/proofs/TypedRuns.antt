@@ -11,7 +11,7 @@ use Rattle.tcl_lang.specs.declared.ty.Ty.{Ty}
 use Rattle.tcl_lang.specs.declared.ty.Word.{Word}
 use Rattle.tcl_lang.specs.declared.instr.Instr.{Instr}
 use Rattle.tcl_lang.specs.declared.pred.Line.{Line}
-use Rattle.tcl_lang.specs.declared.pred.Line.TheVariants.{Input, Pre, Step, Assert, Assume, Cut, Post}
+use Rattle.tcl_lang.specs.declared.pred.Line.TheVariants.{Input, Step}
 use Rattle.tcl_lang.specs.declared.reason.Reason.{Reason}
 use Rattle.tcl_lang.specs.Types.{IsTy, InType, is_ty}
 use Rattle.tcl_lang.specs.Store.{empty_word, word_at}
@@ -171,19 +171,15 @@ typed_begins names = record {
         none_some T e = cc
 
 -- a well typed line keeps that
-typed_line : (names : ℕ) (types : List (Option Ty)) (store : List Word) (l : Line) (taken : ℤ) → IsTypedStore names types store → HasNoReason types l → is_line l ≡ true → ((U : Ty) → taken_type l ≡ Some U → InType U taken) → IsTypedStore names (types_after types (Some l)) (store_after (Some l) taken store)
+pub typed_line : (names : ℕ) (types : List (Option Ty)) (store : List Word) (l : Line) (taken : ℤ) → IsTypedStore names types store → HasNoReason types l → is_line l ≡ true → ((U : Ty) → taken_type l ≡ Some U → InType U taken) → IsTypedStore names (types_after types (Some l)) (store_after (Some l) taken store)
 typed_line names types store (Input T name) taken t n s f = typed_set names types store name T taken t (is_ty_sound T s) (f T refl)
-typed_line names types store (Pre p) taken t n s f = t
 typed_line names types store (Step i) taken t n s f =
     let shape = instruction_shape i s in
     let operands = operands_of i.op (values_of store i.args) taken in
     typed_all names i.outs (result_types i.op i.ty) (results_of i.op i.ty i.amount operands) types store t
     (result_types_are i.op i.ty shape.ty n.kind)
     (results_fit i.op i.ty i.amount operands (typed_operands names types store i taken t n s f))
-typed_line names types store (Assert p) taken t n s f = t
-typed_line names types store (Assume p) taken t n s f = t
-typed_line names types store (Cut p) taken t n s f = t
-typed_line names types store (Post p) taken t n s f = t
+typed_line names types store _ taken t n s f = t
 
 -- in a run from a fitting input each name holds a word of its type before every line
 pub typed_run : (names : ℕ) (lines : List Line) (input : List ℤ) → IsRunnable names lines → Fits (taken_types lines) input → (k : ℕ) → IsTypedStore names (types_at names lines k) (store_at names lines input k)
@@ -246,12 +242,8 @@ run_executes names lines input k i r f e =
 pub run_passes : (names : ℕ) (lines : List Line) (input : List ℤ) (k : ℕ) (l : Line) → IsRunnable names lines → Fits (taken_types lines) input → slice_get lines k ≡ Some l → CanPass (store_at names lines input k) l (get_or input (taken_before lines k) (pos 0))
 run_passes names lines input k (Input T name) r f e =
     omega (arith, r.named k (Input T name) e 0 0 (omega arith), store_length names lines input r f k)
-run_passes names lines input k (Pre p) r f e = tt
 run_passes names lines input k (Step i) r f e = run_executes names lines input k i r f e
-run_passes names lines input k (Assert p) r f e = tt
-run_passes names lines input k (Assume p) r f e = tt
-run_passes names lines input k (Cut p) r f e = tt
-run_passes names lines input k (Post p) r f e = tt
+run_passes names lines input k _ r f e = tt
 
 -- names that are numbered by first occurrence are numbers of names
 numbered_below : (names next : ℕ) (occ : List ℕ) → is_numbered names next occ ≡ true → (next ≤ names) × All (λ name. name < names) occ

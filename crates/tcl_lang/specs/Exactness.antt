@@ -27,7 +27,10 @@ exact_value Mul n a b c = a *ℤ b
 exact_value Shl n a b c = a *ℤ pos (2 ^ n)
 exact_value _ n a b c = a
 
--- the condition holds, or there is none
+-- the condition holds at the operands a, b and c, or there is none
+abbrev pub is_exact_at : Op → Ty → ℕ → ℤ → ℤ → ℤ → Bool
+is_exact_at op T n a b c = not (has_condition op) || is_in_type T (exact_value op n a b c)
+
+-- the same at a list of operands
 abbrev pub is_exact : Op → Ty → ℕ → List ℤ → Bool
-is_exact op T n operands =
-    not (has_condition op) || is_in_type T (exact_value op n (nth operands 0) (nth operands 1) (nth operands 2))
+is_exact op T n operands = is_exact_at op T n (nth operands 0) (nth operands 1) (nth operands 2)

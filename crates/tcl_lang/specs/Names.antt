@@ -1,5 +1,6 @@
 -- The names and the literals of a line, in the order in which they stand in it.
-use Rattle.std.specs.Prelude.{ℕ, List, [], ◌∷◌, ◌++◌, filter_map, flat_map, Option, Some, None}
+use Rattle.std.specs.Prelude.{ℕ, ◌==◌, Bool, List, [], ◌∷◌, ◌++◌, filter_map, flat_map, Option, Some, None}
+use Rattle.std.specs.List.{list_any}
 use Rattle.tcl_lang.specs.declared.instr.Atom.{Atom}
 use Rattle.tcl_lang.specs.declared.instr.Atom.TheVariants.{Var, Lit}
 use Rattle.tcl_lang.specs.declared.term.Term.{Term, Term-F, fold-Term}
@@ -10,8 +11,10 @@ use Rattle.tcl_lang.specs.declared.range.RngPred.{RngPred, RngPred-F, fold-RngPr
 use Rattle.tcl_lang.specs.declared.range.RngPred.TheOpen as pred_layer
 use Rattle.tcl_lang.specs.declared.pred.Pred.{Pred}
 use Rattle.tcl_lang.specs.declared.pred.Pred.TheVariants.{Alg, Rng}
+use Rattle.tcl_lang.specs.declared.instr.Instr.{Instr}
 use Rattle.tcl_lang.specs.declared.pred.Line.{Line}
-use Rattle.tcl_lang.specs.declared.pred.Line.TheVariants.{Input, Pre, Step, Assert, Assume, Cut, Post}
+use Rattle.tcl_lang.specs.declared.pred.Line.TheVariants.{Input, Step}
+use Rattle.tcl_lang.specs.Line.{predicate_of, instruction_of}
 
 -- the name of an operand
 abbrev pub name_of : Atom → Option ℕ
@@ -64,25 +67,29 @@ abbrev pub predicate_names : Pred → List ℕ
 predicate_names (Alg p) = term_names p.left ++ term_names p.right
 predicate_names (Rng p) = filter_map name_of (range_atoms p)
 
+-- the operands of what is stated: those of the predicate, else of the instruction
+abbrev pub stated_atoms : Option Pred → Option Instr → List Atom
+stated_atoms (Some p) i = predicate_atoms p
+stated_atoms None (Some i) = i.args
+stated_atoms None None = []
+
 -- the operands of a line
 abbrev pub line_atoms : Line → List Atom
-line_atoms (Input T name) = []
-line_atoms (Pre p) = predicate_atoms p
-line_atoms (Step i) = i.args
-line_atoms (Assert p) = predicate_atoms p
-line_atoms (Assume p) = predicate_atoms p
-line_atoms (Cut p) = predicate_atoms p
-line_atoms (Post p) = predicate_atoms p
+line_atoms l = stated_atoms (predicate_of l) (instruction_of l)
+
+-- the names of what is stated
+abbrev pub stated_names : Option Pred → Option Instr → List ℕ
+stated_names (Some p) i = predicate_names p
+stated_names None (Some i) = filter_map name_of i.args
+stated_names None None = []
 
 -- the names that a line reads
 abbrev pub used_names : Line → List ℕ
-used_names (Input T name) = []
-used_names (Pre p) = predicate_names p
-used_names (Step i) = filter_map name_of i.args
-used_names (Assert p) = predicate_names p
-used_names (Assume p) = predicate_names p
-used_names (Cut p) = predicate_names p
-used_names (Post p) = predicate_names p
+used_names l = stated_names (predicate_of l) (instruction_of l)
+
+-- a line reads a name
+abbrev pub uses_name : Line → ℕ → Bool
+uses_name l name = list_any (λ other. name == other) (used_names l)
 
 -- the names that a line defines
 abbrev pub defined_names : Line → List ℕ

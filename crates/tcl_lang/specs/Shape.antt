@@ -1,5 +1,5 @@
 -- The shape of a program: what its text could say, before types are looked at.
-use Rattle.std.specs.Prelude.{◌≡◌, ◌≢◌, ◌+◌, ◌-◌, ◌^◌, ◌<◌, ℕ, ℤ, pos, neg_ℤ, int_lt, int_le, nat_le, ◌==◌, max, Bool, true, false, not, ◌&&◌, List, [], ◌∷◌, length, slice_get, Option, Some, None}
+use Rattle.std.specs.Prelude.{◌≡◌, ◌≢◌, ◌+◌, ◌-◌, ◌^◌, ◌<◌, ℕ, ℤ, pos, neg_ℤ, int_lt, int_le, nat_le, ◌==◌, max, Bool, true, false, not, ◌&&◌, List, [], ◌∷◌, map, length, slice_get, Option, Some, None}
 use Rattle.std.specs.List.{list_all}
 use Rattle.tcl_lang.specs.declared.ty.Ty.{Ty}
 use Rattle.tcl_lang.specs.declared.instr.Atom.{Atom}
@@ -17,9 +17,10 @@ use Rattle.tcl_lang.specs.declared.range.RngPred.TheOpen as pred_layer
 use Rattle.tcl_lang.specs.declared.pred.Pred.{Pred}
 use Rattle.tcl_lang.specs.declared.pred.Pred.TheVariants.{Alg, Rng}
 use Rattle.tcl_lang.specs.declared.pred.Line.{Line}
-use Rattle.tcl_lang.specs.declared.pred.Line.TheVariants.{Input, Pre, Step, Assert, Assume, Cut, Post}
+use Rattle.tcl_lang.specs.declared.pred.Line.TheVariants.{Input, Pre, Step, Post}
 use Rattle.tcl_lang.specs.Types.{is_ty}
 use Rattle.tcl_lang.specs.Instruction.{result_count, operand_count}
+use Rattle.tcl_lang.specs.Line.{predicate_of}
 use Rattle.tcl_lang.specs.Names.{all_occurrences}
 
 -- the part of a program in which a line stands: `in` lines, `pre` lines, the body, `post` lines
@@ -29,10 +30,10 @@ stage_of (Pre p) = 1
 stage_of (Post p) = 3
 stage_of _ = 2
 
--- the parts stand in this order, from this part on
-abbrev pub in_stages : ℕ → List Line → Bool
+-- parts in this order, from this part on
+abbrev pub in_stages : ℕ → List ℕ → Bool
 in_stages stage [] = true
-in_stages stage (l ∷ lines) = nat_le stage (stage_of l) && in_stages (stage_of l) lines
+in_stages stage (next ∷ stages) = nat_le stage next && in_stages next stages
 
 -- a number of a term or a modulus: 0 to 2 ^ 127 - 1
 abbrev pub is_number : ℤ → Bool
@@ -119,15 +120,16 @@ is_instruction i =
     is_ty i.ty && length i.outs == result_count i.op && length i.args == operand_count i.op
     && list_all is_atom i.args && is_amount i.op i.amount
 
+-- what is stated, where there is a predicate
+abbrev pub is_stated : Option Pred → Bool
+is_stated (Some p) = is_predicate p
+is_stated None = true
+
 -- a line
 abbrev pub is_line : Line → Bool
 is_line (Input T name) = is_ty T
-is_line (Pre p) = is_predicate p
 is_line (Step i) = is_instruction i
-is_line (Assert p) = is_predicate p
-is_line (Assume p) = is_predicate p
-is_line (Cut p) = is_predicate p
-is_line (Post p) = is_predicate p
+is_line l = is_stated (predicate_of l)
 
 -- names are numbered by first occurrence: after `next` names each further one is one of them or the next, and at the
 -- end there are `names` of them
@@ -143,7 +145,7 @@ AreDistinct names =
 -- what the type of a program keeps
 pub record HasShape (names : List (List ℕ)) (lines : List Line) : Type 0 where
   pub few : length lines < 2 ^ 32 - 1
-  pub stages : in_stages 0 lines ≡ true
+  pub stages : in_stages 0 (map stage_of lines) ≡ true
   pub shapes : list_all is_line lines ≡ true
   pub distinct : AreDistinct names
   pub numbered : is_numbered (length names) 0 (all_occurrences lines) ≡ true

@@ -8,13 +8,13 @@ use Rattle.tcl_lang.specs.declared.term.Term.{Term}
 use Rattle.tcl_lang.specs.declared.term.Part.{Part}
 use Rattle.tcl_lang.specs.declared.pred.Pred.{Pred}
 use Rattle.tcl_lang.specs.declared.pred.Pred.TheVariants.{Alg, Rng}
+use Rattle.tcl_lang.specs.declared.instr.Instr.{Instr}
 use Rattle.tcl_lang.specs.declared.pred.Line.{Line}
-use Rattle.tcl_lang.specs.declared.pred.Line.TheVariants.{Input, Pre, Step, Assert, Assume, Cut, Post}
 use Rattle.tcl_lang.specs.Term.{term_value}
 use Rattle.tcl_lang.specs.Modulus.{modulus_value, is_wide_modulus}
 use Rattle.tcl_lang.specs.Range.{range_truth}
 use Rattle.tcl_lang.specs.Bound.{equation_size, size_end}
-use Rattle.tcl_lang.specs.Line.{line_truth}
+use Rattle.tcl_lang.specs.Line.{predicate_of, instruction_of, instruction_truth}
 
 abbrev pub yes_or_no : Bool → Truth
 yes_or_no b = if b then Yes else No
@@ -34,12 +34,12 @@ abbrev pub predicate_computed : List Word → Pred → Truth
 predicate_computed store (Alg p) = equation_truth store p.left p.right p.modulus
 predicate_computed store (Rng p) = yes_or_no (range_truth store p)
 
+-- the computed truth of what is stated: of the predicate, else of the condition of the instruction
+abbrev pub stated_computed : List Word → Option Pred → Option Instr → Truth
+stated_computed store (Some p) i = predicate_computed store p
+stated_computed store None (Some i) = yes_or_no (instruction_truth store i)
+stated_computed store None None = Yes
+
 -- the computed truth of a line in a store; a line that states nothing is true
 abbrev pub line_computed : List Word → Line → Truth
-line_computed store (Input T name) = Yes
-line_computed store (Pre p) = predicate_computed store p
-line_computed store (Step i) = yes_or_no (line_truth store (Step i))
-line_computed store (Assert p) = predicate_computed store p
-line_computed store (Assume p) = predicate_computed store p
-line_computed store (Cut p) = predicate_computed store p
-line_computed store (Post p) = predicate_computed store p
+line_computed store l = stated_computed store (predicate_of l) (instruction_of l)

@@ -6,6 +6,7 @@ use Rattle.tcl_lang.specs.declared.instr.Atom.{Atom}
 use Rattle.tcl_lang.specs.declared.instr.Atom.TheVariants.{Var, Lit}
 use Rattle.tcl_lang.specs.declared.instr.Op.{Op}
 use Rattle.tcl_lang.specs.declared.instr.Op.TheVariants.{Mov, Adds, Adc, Adcs, Subb, Sbb, Sbbs, Mulj, Shl, Split, Join, Cast, Vpc, Cmov, Not, Nondet}
+use Rattle.tcl_lang.specs.declared.instr.Instr.{Instr}
 use Rattle.tcl_lang.specs.declared.term.Part.{Part}
 use Rattle.tcl_lang.specs.declared.range.RngTerm.{RngTerm, RngTerm-F, fold-RngTerm}
 use Rattle.tcl_lang.specs.declared.range.RngTerm.TheOpen as range_layer
@@ -14,13 +15,13 @@ use Rattle.tcl_lang.specs.declared.range.RngPred.TheOpen as pred_layer
 use Rattle.tcl_lang.specs.declared.pred.Pred.{Pred}
 use Rattle.tcl_lang.specs.declared.pred.Pred.TheVariants.{Alg, Rng}
 use Rattle.tcl_lang.specs.declared.pred.Line.{Line}
-use Rattle.tcl_lang.specs.declared.pred.Line.TheVariants.{Input, Pre, Step, Assert, Assume, Cut, Post}
+use Rattle.tcl_lang.specs.declared.pred.Line.TheVariants.{Input, Step}
 use Rattle.tcl_lang.specs.declared.reason.Reason.{Reason}
 use Rattle.tcl_lang.specs.declared.reason.Reason.TheVariants.{Kind, Amount, Undefined, Literal, Mismatch, Repeated, Modulus}
 use Rattle.tcl_lang.specs.Types.{is_in_type, bit_type, unsigned_of, same_type}
 use Rattle.tcl_lang.specs.Results.{result_types}
 use Rattle.tcl_lang.specs.Modulus.{is_modulus}
-use Rattle.tcl_lang.specs.Line.{predicate_of}
+use Rattle.tcl_lang.specs.Line.{predicate_of, instruction_of}
 use Rattle.tcl_lang.specs.Names.{line_atoms, used_names}
 
 -- the type of a name, where an earlier line defines it; a name may be defined again, also with another type
@@ -136,14 +137,16 @@ abbrev pub predicate_agrees : List (Option Ty) → Pred → Bool
 predicate_agrees types (Alg p) = true
 predicate_agrees types (Rng p) = sides_agree types p
 
+abbrev pub instruction_agrees : List (Option Ty) → Instr → Bool
+instruction_agrees types i = operands_suit types (operand_types i.op i.ty) i.args
+
+abbrev pub stated_agrees : List (Option Ty) → Option Pred → Option Instr → Bool
+stated_agrees types (Some p) i = predicate_agrees types p
+stated_agrees types None (Some i) = instruction_agrees types i
+stated_agrees types None None = true
+
 abbrev pub agrees_in_types : List (Option Ty) → Line → Bool
-agrees_in_types types (Input T name) = true
-agrees_in_types types (Pre p) = predicate_agrees types p
-agrees_in_types types (Step i) = operands_suit types (operand_types i.op i.ty) i.args
-agrees_in_types types (Assert p) = predicate_agrees types p
-agrees_in_types types (Assume p) = predicate_agrees types p
-agrees_in_types types (Cut p) = predicate_agrees types p
-agrees_in_types types (Post p) = predicate_agrees types p
+agrees_in_types types l = stated_agrees types (predicate_of l) (instruction_of l)
 
 -- repeated: an `in` name that has a type already, or two results of one name
 abbrev pub has_twice : List ℕ → Bool

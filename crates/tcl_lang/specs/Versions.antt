@@ -1,10 +1,11 @@
 -- Static single assignment (Cytron, Ferrante, Rosen, Wegman, Zadeck, TOPLAS 1991): each definition of a name becomes a
 -- variable of its own. Variables are numbered by their definitions: `in` names in order, then results in the order of
 -- the instructions and from left to right. The k-th definition of a name, from 0, has the version k.
-use Rattle.std.specs.Prelude.{◌≡◌, ℕ, zero, suc, ◌+◌, Option, Some, None, slice_get, List, [], ◌∷◌, ◌++◌, map, length, replicate, slice_index, slice_index_or, slice_set}
+use Rattle.std.specs.Prelude.{◌≡◌, ℕ, zero, suc, ◌+◌, ◌^◌, ◌<◌, Option, Some, None, slice_get, List, [], ◌∷◌, ◌++◌, map, length, replicate, slice_index, slice_index_or, slice_set}
 use Rattle.tcl_lang.specs.declared.ty.Ty.{Ty}
 use Rattle.tcl_lang.specs.declared.instr.Atom.{Atom}
 use Rattle.tcl_lang.specs.declared.instr.Atom.TheVariants.{Var, Lit}
+use Rattle.tcl_lang.specs.declared.instr.Instr.{Instr}
 use Rattle.tcl_lang.specs.declared.term.Term.{Term, Term-F, fold-Term}
 use Rattle.tcl_lang.specs.declared.term.Term.TheOpen as term_layer
 use Rattle.tcl_lang.specs.declared.term.Term as plain_term
@@ -20,8 +21,9 @@ use Rattle.tcl_lang.specs.declared.range.RngPred.TheViews as range_pred
 use Rattle.tcl_lang.specs.declared.pred.Pred.{Pred}
 use Rattle.tcl_lang.specs.declared.pred.Pred.TheVariants.{Alg, Rng}
 use Rattle.tcl_lang.specs.declared.pred.Line.{Line}
-use Rattle.tcl_lang.specs.declared.pred.Line.TheVariants.{Input, Pre, Step, Assert, Assume, Cut, Post}
+use Rattle.tcl_lang.specs.declared.pred.Line.TheVariants.{Input, Step}
 use Rattle.tcl_lang.specs.declared.variable.Variable.{Variable}
+use Rattle.tcl_lang.specs.Line.{predicate_of, with_predicate}
 use Rattle.tcl_lang.specs.Results.{result_types}
 use Rattle.tcl_lang.specs.Typing.{IsWellTyped}
 use Rattle.tcl_lang.specs.Shape.{HasShape}
@@ -106,22 +108,27 @@ abbrev pub numbers_from : ℕ → List ℕ → List ℕ
 numbers_from n [] = []
 numbers_from n (name ∷ names) = n ∷ numbers_from (n + 1) names
 
--- a line: it reads the versions before it, and defines the next variables
-abbrev pub version_line : Versions → Line → Line
-version_line v (Input T name) = Input T (length v.variables)
-version_line v (Pre p) = Pre (version_predicate v.current p)
-version_line v (Step i) =
-    Step (record {
+-- an instruction: it reads the versions before it, and defines the next variables
+abbrev pub version_instruction : Versions → Instr → Instr
+version_instruction v i =
+    record {
       op = i.op;
       ty = i.ty;
       outs = numbers_from (length v.variables) i.outs;
       args = map (version_atom v.current) i.args;
       amount = i.amount;
-    })
-version_line v (Assert p) = Assert (version_predicate v.current p)
-version_line v (Assume p) = Assume (version_predicate v.current p)
-version_line v (Cut p) = Cut (version_predicate v.current p)
-version_line v (Post p) = Post (version_predicate v.current p)
+    }
+
+-- a line that states this predicate, or none
+abbrev pub version_stated : List ℕ → Line → Option Pred → Line
+version_stated current l (Some p) = with_predicate l (version_predicate current p)
+version_stated current l None = l
+
+-- a line: it reads the versions before it, and defines the next variables
+abbrev pub version_line : Versions → Line → Line
+version_line v (Input T name) = Input T (length v.variables)
+version_line v (Step i) = Step (version_instruction v i)
+version_line v l = version_stated v.current l (predicate_of l)
 
 abbrev pub versions_step : List (List ℕ) → Versions → Option Line → Versions
 versions_step names v None = v
@@ -149,9 +156,10 @@ form_of p =
       lines = version_lines p.names (no_versions (length p.names)) p.lines;
     }
 
--- the form of a program that has its shape and is well typed
+-- the form of a program that has its shape and is well typed, of fewer than 2 ^ 32 variables
 pub record IsForm (f : VersionedProgram) : Type 0 where
   pub source : NamedProgram
   pub shape : HasShape source.names source.lines
   pub typed : IsWellTyped (length source.names) source.lines
   pub form : f ≡ form_of source
+  pub few : length f.variables < 2 ^ 32

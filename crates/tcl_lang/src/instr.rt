@@ -124,8 +124,11 @@ impl Same for Atom {
     }
 }
 
-impl Copies for Instr {
-    fn copy_in(&self, _alloc: Global) -> Result<Self, AllocError> {
+impl Instr {
+    /// An equal instruction with the same allocators. The only error is that memory has run out.
+    pub fn copy(&self) -> Result<Self, AllocError>
+        ensures copy { IfOk result (λ copy. copy ≡ self.now) }
+    {
         Ok(Instr {
             op: self.op,
             ty: self.ty,
@@ -133,6 +136,12 @@ impl Copies for Instr {
             args: self.args.copy()?,
             amount: self.amount,
         })
+    }
+}
+
+impl Copies for Instr {
+    fn copy_in(&self, _alloc: Global) -> Result<Self, AllocError> {
+        self.copy()
     }
 }
 

@@ -1,4 +1,4 @@
-//! Values of runs, computed truth, and the words in which a bound that was met is named.
+//! Values of runs, and computed truth.
 
 use tcl_list::Listing;
 
@@ -14,19 +14,4 @@ pub enum Truth {
     Yes,
     No,
     Wide,
-}
-
-/// Where numbers became too great: at the claim itself, or at the line of this place.
-#[derive(Clone, Copy, PartialEq, Eq)]
-pub enum At {
-    Claim,
-    Line(u32),
-}
-
-/// What passed its stated size.
-#[derive(Clone, Copy, PartialEq, Eq)]
-pub enum What {
-    Clauses,
-    Degree,
-    Terms,
 }

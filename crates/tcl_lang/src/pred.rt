@@ -10,14 +10,21 @@ use std::alloc::{AllocError, Global};
 use tcl_list::{Copies, Same};
 
 /// What a line states: an equation or congruence of integers, or a predicate over words.
-#[derive(Drop)]
 pub enum Pred {
     Alg(AlgPred),
     Rng(RngPred),
 }
 
-/// One line of a program. Other crates read a line through `role`, `predicate` and their like.
-#[derive(Drop)]
+impl Drop for Pred {
+    fn drop(self) {
+        match self {
+            Pred::Alg(pred) => drop(pred),
+            Pred::Rng(pred) => drop(pred),
+        }
+    }
+}
+
+/// One line of a program. Other crates read a line through `predicate`, `instruction`, `is_goal` and their like.
 pub enum Line {
     Input(Ty, u32),
     Pre(Pred),
@@ -28,9 +35,24 @@ pub enum Line {
     Post(Pred),
 }
 
+impl Drop for Line {
+    fn drop(self) {
+        match self {
+            Line::Input(_, _) => (),
+            Line::Step(instr) => drop(instr),
+            Line::Pre(pred) => drop(pred),
+            Line::Assert(pred) => drop(pred),
+            Line::Assume(pred) => drop(pred),
+            Line::Cut(pred) => drop(pred),
+            Line::Post(pred) => drop(pred),
+        }
+    }
+}
+
 impl Line {
-    ghost use Rattle.std.specs.Prelude.{option_copied};
+    ghost use Rattle.std.specs.Prelude.{option_copied, IsSome};
     ghost use Rattle.tcl_lang.specs.Line as line;
+    ghost use Rattle.tcl_lang.specs.Shape as shape;
 
     /// The predicate that the line states.
     pub fn predicate(&self) -> Option<&Pred>
@@ -81,6 +103,48 @@ impl Line {
         }
     }
 
+    /// The line of the same kind that states `pred`, for a line that states a predicate.
+    pub fn with_predicate(&self, pred: Pred) -> Line
+        requires { IsSome (line.predicate_of self.now) }
+        ensures { result ≡ line.with_predicate self.now pred }
+    {
+        match self {
+            Line::Pre(_) => Line::Pre(pred),
+            Line::Assert(_) => Line::Assert(pred),
+            Line::Assume(_) => Line::Assume(pred),
+            Line::Cut(_) => Line::Cut(pred),
+            Line::Post(_) => Line::Post(pred),
+            Line::Input(..) | Line::Step(_) => unreachable!(),
+        }
+    }
+
+    /// Whether the line states an algebraic predicate.
+    pub fn is_algebraic(&self) -> bool
+        ensures { result ≡ line.is_algebraic self.now }
+    {
+        matches!(self.predicate(), Some(Pred::Alg(_)))
+    }
+
+    /// Whether the line is an `in` line.
+    pub fn is_input(&self) -> bool
+        ensures { result ≡ line.is_input self.now }
+    {
+        matches!(self, Line::Input(..))
+    }
+
+    /// The part of the program in which the line stands: 0 for `in` lines, 1 for `pre` lines, 2 for the body, 3 for `post`
+    /// lines.
+    pub fn stage(&self) -> u32
+        ensures { result ≡ shape.stage_of self.now }
+    {
+        match self {
+            Line::Input(..) => 0,
+            Line::Pre(_) => 1,
+            Line::Post(_) => 3,
+            _ => 2,
+        }
+    }
+
     /// Whether a fact may have the line as a hypothesis.
     pub fn is_hypothesis(&self) -> bool
         ensures { result ≡ line.is_hypothesis self.now }
@@ -109,6 +173,17 @@ impl Line {
         match self {
             Line::Input(ty, _) => Some(*ty),
             Line::Step(instr) if instr.op == Op::Nondet => Some(instr.ty),
+            _ => None,
+        }
+    }
+
+    /// The name to which the line gives the value that it takes from the input, if it takes one.
+    pub fn taken_name(&self) -> Option<u32>
+        ensures { result ≡ line.taken_name self.now }
+    {
+        match self {
+            Line::Input(_, name) => Some(*name),
+            Line::Step(instr) if instr.op == Op::Nondet => instr.outs.as_slice().first().copied(),
             _ => None,
         }
     }

@@ -3,6 +3,7 @@
 ghost use Rattle.std.specs.Prelude.{◌≡◌, ◌↔◌, IsTrue, IfOk, length};
 ghost use Rattle.tcl_lang.specs.Shape.{HasShape};
 ghost use Rattle.tcl_lang.specs.Typing.{IsWellTyped};
+ghost use Rattle.tcl_lang.specs.Form.{IsWellFormed};
 ghost use Rattle.tcl_lang.specs.Versions.{IsForm};
 
 use crate::pred::Line;
@@ -69,14 +70,21 @@ impl Program {
     {
         &self.lines
     }
-}
 
-impl Copies for Program {
-    fn copy_in(&self, _alloc: Global) -> Result<Self, AllocError> {
+    /// An equal program with the same allocators. The only error is that memory has run out.
+    pub fn copy(&self) -> Result<Self, AllocError>
+        ensures copy { IfOk result (λ copy. copy ≡ self.now) }
+    {
         Ok(Program {
             names: self.names.copy()?,
             lines: self.lines.copy()?,
         })
+    }
+}
+
+impl Copies for Program {
+    fn copy_in(&self, _alloc: Global) -> Result<Self, AllocError> {
+        self.copy()
     }
 }
 
@@ -130,14 +138,21 @@ impl Parsed {
     {
         &self.places
     }
+
+    /// An equal program with the same allocators. The only error is that memory has run out.
+    pub fn copy(&self) -> Result<Self, AllocError>
+        ensures copy { IfOk result (λ copy. copy ≡ self.now) }
+    {
+        Ok(Parsed {
+            program: self.program.copy()?,
+            places: self.places.copy()?,
+        })
+    }
 }
 
 impl Copies for Parsed {
-    fn copy_in(&self, alloc: Global) -> Result<Self, AllocError> {
-        Ok(Parsed {
-            program: self.program.copy_in(alloc)?,
-            places: self.places.copy()?,
-        })
+    fn copy_in(&self, _alloc: Global) -> Result<Self, AllocError> {
+        self.copy()
     }
 }
 
@@ -187,13 +202,20 @@ impl Typed {
     {
         self.parsed.places()
     }
+
+    /// An equal program with the same allocators. The only error is that memory has run out.
+    pub fn copy(&self) -> Result<Self, AllocError>
+        ensures copy { IfOk result (λ copy. copy ≡ self.now) }
+    {
+        Ok(Typed {
+            parsed: self.parsed.copy()?,
+        })
+    }
 }
 
 impl Copies for Typed {
-    fn copy_in(&self, alloc: Global) -> Result<Self, AllocError> {
-        Ok(Typed {
-            parsed: self.parsed.copy_in(alloc)?,
-        })
+    fn copy_in(&self, _alloc: Global) -> Result<Self, AllocError> {
+        self.copy()
     }
 }
 
@@ -233,6 +255,7 @@ impl Ssa {
 
     pub fn variables(&self) -> &Variables
         ensures variables { result.now ≡ self.now.variables }
+        ensures well_formed { IsWellFormed self.now }
     {
         &self.variables
     }
@@ -240,17 +263,25 @@ impl Ssa {
     pub fn lines(&self) -> &Lines
         ensures lines { result.now ≡ self.now.lines }
         ensures form { IsForm self.now }
+        ensures well_formed { IsWellFormed self.now }
     {
         &self.lines
+    }
+
+    /// An equal program with the same allocators. The only error is that memory has run out.
+    pub fn copy(&self) -> Result<Self, AllocError>
+        ensures copy { IfOk result (λ copy. copy ≡ self.now) }
+    {
+        Ok(Ssa {
+            variables: self.variables.copy()?,
+            lines: self.lines.copy()?,
+        })
     }
 }
 
 impl Copies for Ssa {
     fn copy_in(&self, _alloc: Global) -> Result<Self, AllocError> {
-        Ok(Ssa {
-            variables: self.variables.copy()?,
-            lines: self.lines.copy()?,
-        })
+        self.copy()
     }
 }
 

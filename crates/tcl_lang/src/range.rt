@@ -20,13 +20,27 @@ pub enum RngOp {
 }
 
 /// A word expression. Each operator keeps the type of its operands and wraps; `Flip` flips every bit.
-#[derive(Drop)]
 pub enum RngTerm {
     Leaf(Atom),
     Neg(Boxed<RngTerm>),
     Flip(Boxed<RngTerm>),
     Bin(RngOp, Boxed<RngTerm>, Boxed<RngTerm>),
     Cast(Ty, Boxed<RngTerm>),
+}
+
+impl Drop for RngTerm {
+    fn drop(self) {
+        match self {
+            RngTerm::Leaf(_) => (),
+            RngTerm::Neg(inner) | RngTerm::Flip(inner) | RngTerm::Cast(_, inner) => {
+                drop(inner.into_inner());
+            }
+            RngTerm::Bin(_, left, right) => {
+                drop(left.into_inner());
+                drop(right.into_inner());
+            }
+        }
+    }
 }
 
 /// The comparisons.
@@ -41,7 +55,6 @@ pub enum CmpOp {
 }
 
 /// A predicate over words.
-#[derive(Drop)]
 pub enum RngPred {
     True,
     False,
@@ -49,6 +62,23 @@ pub enum RngPred {
     Not(Boxed<RngPred>),
     Both(Boxed<RngPred>, Boxed<RngPred>),
     Either(Boxed<RngPred>, Boxed<RngPred>),
+}
+
+impl Drop for RngPred {
+    fn drop(self) {
+        match self {
+            RngPred::True | RngPred::False => (),
+            RngPred::Cmp(_, left, right) => {
+                drop(left);
+                drop(right);
+            }
+            RngPred::Not(inner) => drop(inner.into_inner()),
+            RngPred::Both(left, right) | RngPred::Either(left, right) => {
+                drop(left.into_inner());
+                drop(right.into_inner());
+            }
+        }
+    }
 }
 
 impl Copies for RngTerm {

@@ -13,7 +13,7 @@ ghost use Rattle.tcl_lang.specs.Execution.{CanExecute, CanPass, IsRunnable};
 
 use crate::instr::{Atom, Instr, Op};
 use crate::pred::Line;
-use crate::results::Results;
+use crate::result_values::Results;
 use crate::step::results;
 use crate::ty::{Ty, Word};
 use std::alloc::{AllocError, Global};

@@ -12,7 +12,7 @@ use crate::arithmetic::{
     sum_with, unsigned_product,
 };
 use crate::instr::Op;
-use crate::results::Results;
+use crate::result_values::Results;
 use crate::ty::Ty;
 use crate::wrapping::wrap;
 
@@ -82,7 +82,7 @@ fn flipped(n: i128, width: u32) -> u128
 }
 
 /// The results of the instruction at the operands `a`, `b` and `c`, of which it reads as many as it has.
-pub(crate) fn results(op: Op, ty: Ty, amount: u32, a: i128, b: i128, c: i128) -> Results
+pub fn results(op: Op, ty: Ty, amount: u32, a: i128, b: i128, c: i128) -> Results
     requires { HasOperands op ty amount a b c }
     ensures { listed result ≡ row_results op ty amount a b c }
 {

@@ -7,7 +7,6 @@ use std::alloc::{AllocError, Global};
 use tcl_list::{Copies, Listing, Same};
 
 /// An integer expression over the values of variables.
-#[derive(Drop)]
 pub enum Term {
     Var(u32),
     Num(i128),
@@ -16,6 +15,19 @@ pub enum Term {
     Sub(Boxed<Term>, Boxed<Term>),
     Mul(Boxed<Term>, Boxed<Term>),
     Pow(Boxed<Term>, u32),
+}
+
+impl Drop for Term {
+    fn drop(self) {
+        match self {
+            Term::Var(_) | Term::Num(_) => (),
+            Term::Neg(inner) | Term::Pow(inner, _) => drop(inner.into_inner()),
+            Term::Add(left, right) | Term::Sub(left, right) | Term::Mul(left, right) => {
+                drop(left.into_inner());
+                drop(right.into_inner());
+            }
+        }
+    }
 }
 
 /// One part of a modulus: `base` or `base ** power`, subtracted where `minus` is set.
@@ -30,11 +42,23 @@ pub struct Part {
 pub type Modulus = Listing<Part>;
 
 /// `left = right`, as integers or, where there is a modulus, as residues.
-#[derive(Drop)]
 pub struct AlgPred {
     pub left: Term,
     pub right: Term,
     pub modulus: Option<Modulus>,
+}
+
+impl Drop for AlgPred {
+    fn drop(self) {
+        let AlgPred {
+            left,
+            right,
+            modulus,
+        } = self;
+        drop(left);
+        drop(right);
+        drop(modulus);
+    }
 }
 
 impl Copies for Term {

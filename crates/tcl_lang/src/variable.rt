@@ -17,13 +17,22 @@ pub struct Variable {
     pub ty: Ty,
 }
 
-impl Copies for Variable {
-    fn copy_in(&self, _alloc: Global) -> Result<Self, AllocError> {
+impl Variable {
+    /// An equal variable with the same allocators. The only error is that memory has run out.
+    pub fn copy(&self) -> Result<Self, AllocError>
+        ensures copy { IfOk result (λ copy. copy ≡ self.now) }
+    {
         Ok(Variable {
             name: self.name.copy()?,
             version: self.version,
             ty: self.ty,
         })
+    }
+}
+
+impl Copies for Variable {
+    fn copy_in(&self, _alloc: Global) -> Result<Self, AllocError> {
+        self.copy()
     }
 }
 

@@ -8,6 +8,3 @@ mod same;
 pub use copies::Copies;
 pub use listing::Listing;
 pub use same::Same;
-
-#[cfg(test)]
-mod tests;

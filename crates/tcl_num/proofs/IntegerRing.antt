@@ -1,6 +1,6 @@
 -- The ring laws of the integers: the product is associative and distributes over sums and differences.
 -- An integer z is read as `up z - down z`; a product of sums is multiplied out part by part.
-use Rattle.std.proofs.Common.{◌≡◌, ◌*◌, sym, ◌∙◌, ap, arith, ℤ, pos, ◌+ℤ◌, ◌-ℤ◌, ◌*ℤ◌, neg_ℤ}
+use Rattle.std.proofs.Common.{◌≡◌, ◌*◌, sym, ◌∙◌, ap, arith, ℤ, pos, negsuc, ◌+ℤ◌, ◌-ℤ◌, ◌*ℤ◌, neg_ℤ}
 use Rattle.std.proofs.lemmas.Int.{ints}
 use lib.IntN.{*ℤ_comm, +ℤ_comm, +ℤ_assoc, +ℤ_idl, +ℤ_idr, +ℤ_invr, *ℤ-zero, zero-*ℤ}
 use borrow.Author.Differences.{up, down, same_in, sum_is_lem, neg_is, product_is}
@@ -91,3 +91,6 @@ int_mul_assoc a b c =
 -- the two outer factors change places
 pub int_mul_swap : (a b c : ℤ) → a *ℤ (b *ℤ c) ≡ b *ℤ (a *ℤ c)
 int_mul_swap a b c = sym (int_mul_assoc a b c) ∙ ap (λ x. x *ℤ c) (int_mul_comm a b) ∙ int_mul_assoc b a c
+
+pub int_minus_one_mul : (a : ℤ) → negsuc 0 *ℤ a ≡ neg_ℤ a
+int_minus_one_mul a = int_neg_mul (pos 1) a ∙ ap neg_ℤ (int_one_mul a)

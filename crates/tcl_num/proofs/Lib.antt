@@ -8,3 +8,4 @@ pub mod WrappedValues
 pub mod SaturatingCounts
 pub mod ResidueProducts
 pub mod MachineWrapping
+mod FarSums

@@ -72,36 +72,3 @@ fn residue_value(signed: bool, width: u32, n: i128) -> i128
         left
     }
 }
-
-#[cfg(test)]
-mod tests {
-    use super::*;
-    use std::process::Abort;
-
-    fn expect_wrapped(rt: &impl Abort, signed: bool, width: u32, n: i128, value: i128)
-        requires positive { 0 < width }
-        requires narrow { width ≤ 64 }
-    {
-        assert_eq!(rt; wrap_to(signed, width, n), value, "{n} at {width} bits");
-        assert_eq!(rt;
-            in_range(signed, width, n),
-            n == value,
-            "{n} at {width} bits"
-        );
-    }
-
-    // The values come from python3.
-    #[test]
-    fn wrapped_values(rt: HostRuntime) {
-        expect_wrapped(&rt, true, 8, 200, -56);
-        expect_wrapped(&rt, true, 8, -129, 127);
-        expect_wrapped(&rt, false, 8, -1, 255);
-        expect_wrapped(&rt, true, 64, i128::MAX, -1);
-        expect_wrapped(&rt, true, 64, i128::MIN, 0);
-        expect_wrapped(&rt, false, 64, i128::MIN + 5, 5);
-        expect_wrapped(&rt, true, 2, 2, -2);
-        expect_wrapped(&rt, false, 1, 3, 1);
-        expect_wrapped(&rt, true, 13, 4096, -4096);
-        expect_wrapped(&rt, false, 64, 18446744073709551616, 0);
-    }
-}

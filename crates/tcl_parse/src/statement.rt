@@ -4,6 +4,4 @@ mod instruction;
 pub(crate) mod line;
 mod modulus;
 mod predicate;
-#[cfg(test)]
-mod tests;
 mod tokens;

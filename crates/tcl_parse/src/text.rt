@@ -11,7 +11,5 @@ mod progress;
 mod reading;
 pub(crate) mod scan;
 mod symbols;
-#[cfg(test)]
-mod tests;
 mod tokens;
 mod words;

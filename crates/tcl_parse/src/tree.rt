@@ -6,5 +6,3 @@ pub(crate) mod range_predicates;
 pub(crate) mod range_terms;
 pub(crate) mod reader;
 pub(crate) mod terms;
-#[cfg(test)]
-mod tests;

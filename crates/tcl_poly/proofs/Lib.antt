@@ -11,3 +11,8 @@ pub mod Merging
 pub mod TermLists
 pub mod TermMerging
 pub mod Halves
+pub mod Combinations
+pub mod Cancelling
+pub mod CombinationLaws
+pub mod Moving
+pub mod Powers

@@ -1,12 +1,12 @@
 -- Canonical polynomials are a commutative ring: its laws hold as equations of lists.
-use Rattle.std.proofs.Common.{◌≡◌, refl, sym, ◌∙◌, ap, [], ◌∷◌, ◌++◌, ℤ, ◌+ℤ◌, ◌*ℤ◌}
-use Rattle.tcl_num.proofs.IntegerRing.{int_add_comm, int_add_assoc}
+use Rattle.std.proofs.Common.{◌≡◌, refl, sym, ◌∙◌, ap, [], ◌∷◌, ◌++◌, ℤ, pos, ◌+ℤ◌, ◌*ℤ◌}
+use Rattle.tcl_num.proofs.IntegerRing.{int_add_comm, int_add_assoc, int_add_zero, int_one_mul}
 use Rattle.tcl_ring.specs.Reduction.{IsReduction}
 use Rattle.tcl_poly.specs.Monomial.{Monomial, IsMonomial, times}
-use Rattle.tcl_poly.specs.Polynomial.{Polynomial, IsUnder, IsPolynomial, sum_of, scaled, product_of, weigh}
+use Rattle.tcl_poly.specs.Polynomial.{Polynomial, IsUnder, IsPolynomial, sum_of, scaled, product_of, number_of, weigh}
 use Rattle.tcl_poly.proofs.MonomialLaws.{times_comm, times_assoc}
-use Rattle.tcl_poly.proofs.Weights.{two_sums, right_sum, weigh_sum, weigh_product, weigh_swap}
-use Rattle.tcl_poly.proofs.Canonical.{sum_is, scaled_is, product_is, same_alike}
+use Rattle.tcl_poly.proofs.Weights.{two_sums, right_sum, reduced_weight, weigh_front, weigh_factor, weigh_sum, weigh_product, weigh_swap}
+use Rattle.tcl_poly.proofs.Canonical.{sum_is, scaled_is, product_is, number_is, same_alike}
 
 pub sum_comm : (r : ℤ → ℤ) → IsReduction r → (p q : Polynomial) → IsPolynomial r p → IsPolynomial r q → sum_of r p q ≡ sum_of r q p
 sum_comm r ring p q h j =
@@ -26,7 +26,7 @@ pub sum_nothing : (r : ℤ → ℤ) → IsReduction r → (p : Polynomial) → I
 sum_nothing r ring p h = sum_comm r ring p [] h tt
 
 -- weights of monomials alone agree; the terms of a polynomial have monomials
-weigh_alike_on : (r : ℤ → ℤ) (φ ψ : Monomial → ℤ) (p : Polynomial) → IsPolynomial r p → ((m : Monomial) → IsMonomial m → φ m ≡ ψ m) → weigh φ p ≡ weigh ψ p
+pub weigh_alike_on : (r : ℤ → ℤ) (φ ψ : Monomial → ℤ) (p : Polynomial) → IsPolynomial r p → ((m : Monomial) → IsMonomial m → φ m ≡ ψ m) → weigh φ p ≡ weigh ψ p
 weigh_alike_on r φ ψ [] h e = refl
 weigh_alike_on r φ ψ (t ∷ p) h e =
     ap (λ x. t.1 *ℤ x +ℤ weigh φ p) (e t.0 h.0) ∙ ap (λ x. t.1 *ℤ ψ t.0 +ℤ x) (weigh_alike_on r φ ψ p h.4 e)
@@ -97,3 +97,19 @@ product_front r ring [] q s h k = refl
 product_front r ring (t ∷ p) q s h k =
     ap (λ x. sum_of r (scaled r t s) x) (product_front r ring p q s h.4 k)
     ∙ sym (sum_assoc r ring (scaled r t s) (product_of r p s) (product_of r q s) (scaled_is r ring t s h.0 k) (product_is r ring p s (front_part r p q h.4) k) (product_is r ring q s (back_part r p q h.4) k))
+
+-- a product with 1, and with no terms
+pub product_one : (r : ℤ → ℤ) → IsReduction r → (p : Polynomial) → IsPolynomial r p → product_of r p (number_of r (pos 1)) ≡ p
+product_one r ring p h =
+    let one = number_of r (pos 1) in
+    same_alike r ring (product_of r p one) p (product_is r ring p one h (number_is r ring (pos 1))) h
+    (λ φ. weigh_product r ring φ p one
+    ∙ ap r (weigh_alike_on r (λ n. weigh (λ m. φ (times n m)) one) (λ n. r (pos 1) *ℤ φ n) p h
+    (λ n i. weigh_front (λ m. φ (times n m)) [] (r (pos 1)) [] ∙ int_add_zero (r (pos 1) *ℤ φ (times n [])) ∙ ap (λ x. r (pos 1) *ℤ φ x) (times_comm n [] i tt)))
+    ∙ ap r (weigh_factor (r (pos 1)) φ p)
+    ∙ reduced_weight r ring (pos 1) (weigh φ p)
+    ∙ ap r (int_one_mul (weigh φ p)))
+
+pub product_none : (r : ℤ → ℤ) (p : Polynomial) → product_of r p [] ≡ []
+product_none r [] = refl
+product_none r (t ∷ p) = product_none r p

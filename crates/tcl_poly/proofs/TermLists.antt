@@ -1,8 +1,9 @@
 -- Lists of terms by places: what a loop over them reads.
-use Rattle.std.proofs.Common.{◌≡◌, ℕ, zero, suc, ◌+◌, ◌<◌, ◌≤◌, min, refl, sym, ◌∙◌, ap, arith, List, [], ◌∷◌, ◌++◌, length, drop, get_or, drop-cons, add-one, ℤ, pos, negsuc, unsigned_abs}
+use Rattle.std.proofs.Common.{◌≡◌, ℕ, zero, suc, ◌+◌, ◌<◌, ◌≤◌, min, refl, sym, ◌∙◌, ap, arith, List, [], ◌∷◌, ◌++◌, length, drop, get_or, append_assoc, drop-cons, add-one, ℤ, pos, negsuc, ◌*ℤ◌, neg_ℤ, unsigned_abs}
 use Rattle.std.proofs.lemmas.Int.{ints}
 use Rattle.tcl_poly.specs.Monomial.{Monomial, degree}
-use Rattle.tcl_poly.specs.Polynomial.{Polynomial, IsPolynomial, terms_of, front, norm_of, degree_of}
+use Rattle.tcl_poly.specs.Polynomial.{Polynomial, IsPolynomial, terms_of, front, scaled, norm_of, degree_of}
+use Rattle.tcl_num.proofs.IntegerRing.{int_minus_one_mul}
 use Rattle.tcl_poly.proofs.Degrees.{IsWithin, degree_within}
 
 pub terms_append : {E : Type 0} (value : E → ℤ) (p q : List (Monomial × E)) → terms_of value (p ++ q) ≡ terms_of value p ++ terms_of value q
@@ -30,6 +31,16 @@ coefficient_norm_at value (t ∷ p) (suc k) d h = omega (arith, coefficient_norm
 
 pub coefficient_norm : {E : Type 0} (value : E → ℤ) (p : List (Monomial × E)) (k : ℕ) (s : Monomial × E) → s ≡ get_or p k s → k < length p → unsigned_abs (value s.1) ≤ norm_of (terms_of value p)
 coefficient_norm value p k s e h = omega (arith, coefficient_norm_at value p k s h, ap (λ x. unsigned_abs (value x.1)) e)
+
+-- the same for a term that stands at a place
+pub coefficient_norm_from : {E : Type 0} (value : E → ℤ) (p : List (Monomial × E)) (k : ℕ) (s : Monomial × E) → drop k p ≡ s ∷ drop (k + 1) p → unsigned_abs (value s.1) ≤ norm_of (terms_of value p)
+coefficient_norm_from value p k s e = omega (arith, norm_from value p k, ap (λ x. norm_of (terms_of value x)) e)
+  where
+    norm_from : {E : Type 0} (value : E → ℤ) (p : List (Monomial × E)) (k : ℕ) → norm_of (terms_of value (drop k p)) ≤ norm_of (terms_of value p)
+    norm_from value [] zero = omega arith
+    norm_from value [] (suc k) = omega arith
+    norm_from value (t ∷ p) zero = omega arith
+    norm_from value (t ∷ p) (suc k) = omega (arith, norm_from value p k)
 
 -- a term's degree is at most that of the polynomial
 within_at : {E : Type 0} (n : ℕ) (value : E → ℤ) (p : List (Monomial × E)) (k : ℕ) (d : Monomial × E) → k < length p → IsWithin n (terms_of value p) → degree (get_or p k d).0 ≤ n
@@ -67,3 +78,16 @@ degree_of_values value (t ∷ p) = refl
 
 pub term_degree : {E : Type 0} (r : ℤ → ℤ) (value : E → ℤ) (p : List (Monomial × E)) (k : ℕ) (s : Monomial × E) → s ≡ get_or p k s → k < length p → IsPolynomial r (terms_of value p) → degree s.0 ≤ degree_of p
 term_degree r value p k s e h i = omega (arith, degree_at r value p k s h i, degree_of_values value p, ap (λ x. degree x.0) e)
+
+front_append : (m : Monomial) (c : ℤ) (p : Polynomial) → front m c p ≡ front m c [] ++ p
+front_append m (pos zero) p = refl
+front_append m (pos (suc n)) p = refl
+front_append m (negsuc n) p = refl
+
+-- one turn of a negation, term by term
+pub negated_turn : {E : Type 0} (r : ℤ → ℤ) (value : E → ℤ) (p : List (Monomial × E)) (k : ℕ) (t : Monomial × E) (done after : List (Monomial × E)) → t ≡ get_or p k t → k < length p → terms_of value after ≡ terms_of value done ++ front t.0 (r (neg_ℤ (value t.1))) [] → terms_of value after ++ scaled r ([], negsuc 0) (terms_of value (drop (k + 1) p)) ≡ terms_of value done ++ scaled r ([], negsuc 0) (terms_of value (drop k p))
+negated_turn r value p k t done after e h pushed =
+    let rest = scaled r ([], negsuc 0) (terms_of value (drop (k + 1) p)) in
+    ap (λ x. x ++ rest) (pushed ∙ ap (λ x. terms_of value done ++ front t.0 (r x) []) (sym (int_minus_one_mul (value t.1))))
+    ∙ append_assoc (terms_of value done) (front t.0 (r (negsuc 0 *ℤ value t.1)) []) rest
+    ∙ ap (λ x. terms_of value done ++ x) (sym (front_append t.0 (r (negsuc 0 *ℤ value t.1)) rest) ∙ ap (scaled r ([], negsuc 0)) (sym (terms_at value p k t e h)))

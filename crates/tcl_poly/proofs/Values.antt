@@ -1,16 +1,16 @@
 -- The value of a sum is the sum of the values, and so for products, in the ring and at every point.
-use Rattle.std.proofs.Common.{◌≡◌, ℕ, ◌<◌, refl, sym, ◌∙◌, ap, subst, [], ◌∷◌, Ordering, Less, Equal, Greater, nat_cmp, ℤ, ◌+ℤ◌, ◌*ℤ◌}
+use Rattle.std.proofs.Common.{◌≡◌, ℕ, ◌<◌, refl, sym, ◌∙◌, ap, subst, [], ◌∷◌, Ordering, Less, Equal, Greater, nat_cmp, zero, suc, ℤ, pos, negsuc, ◌+ℤ◌, ◌*ℤ◌, neg_ℤ}
 use Rattle.std.specs.Int.{int_pow}
 use Rattle.std.specs.Ordering.{MatchOrdering}
 use Rattle.std.proofs.lemmas.Cmp.{ranked}
-use Rattle.tcl_num.proofs.IntegerRing.{int_mul_assoc, int_mul_comm, int_mul_swap, int_one_mul}
-use Rattle.tcl_num.proofs.IntegerPowers.{int_pow_add}
+use Rattle.tcl_num.proofs.IntegerRing.{int_add_zero, int_mul_assoc, int_mul_comm, int_mul_swap, int_mul_one, int_one_mul, int_minus_one_mul}
+use Rattle.tcl_num.proofs.IntegerPowers.{int_pow_zero, int_pow_one, int_pow_suc, int_pow_add}
 use Rattle.tcl_ring.specs.Reduction.{IsReduction}
 use Rattle.tcl_poly.specs.Monomial.{Monomial, put, put_at, times}
-use Rattle.tcl_poly.specs.Polynomial.{Term, Polynomial, IsPolynomial, sum_of, scaled, product_of, weigh, coefficient, one_at, monomial_value, value_of}
+use Rattle.tcl_poly.specs.Polynomial.{Term, Polynomial, IsPolynomial, sum_of, scaled, product_of, number_of, power_of, raised_by, weigh, coefficient, one_at, monomial_value, value_of}
 use Rattle.tcl_poly.specs.Monomial.{order}
-use Rattle.tcl_poly.proofs.Weights.{weigh_sum, weigh_scaled, weigh_product, weigh_alike, weigh_factor}
-use Rattle.tcl_poly.proofs.Canonical.{coefficient_is, sum_is, scaled_is, product_is}
+use Rattle.tcl_poly.proofs.Weights.{weigh_sum, weigh_scaled, weigh_product, weigh_alike, weigh_factor, weigh_front, reduced_weight}
+use Rattle.tcl_poly.proofs.Canonical.{coefficient_is, sum_is, scaled_is, product_is, number_is}
 
 value_put_at : (point : ℕ → ℤ) (o : Ordering) (f g : ℕ × ℕ) (m further : Monomial) → MatchOrdering o (f.0 < g.0) (f.0 ≡ g.0) (g.0 < f.0) → monomial_value point further ≡ monomial_value point (f ∷ m) → monomial_value point (put_at o f g m further) ≡ monomial_value point (f ∷ (g ∷ m))
 value_put_at point Less f g m further s e = refl
@@ -103,3 +103,51 @@ product_coefficients r ring p q s e h j m = ap (λ x. coefficient x m) e ∙ coe
 
 pub product_values : (r : ℤ → ℤ) → IsReduction r → (p q s : Polynomial) → s ≡ product_of r p q → (point : ℕ → ℤ) → r (value_of point s) ≡ r (value_of point p *ℤ value_of point q)
 product_values r ring p q s e point = ap (λ x. r (value_of point x)) e ∙ value_product r ring point p q
+
+-- ---- numbers and powers
+
+value_number : (r : ℤ → ℤ) → IsReduction r → (point : ℕ → ℤ) (n : ℤ) → r (value_of point (number_of r n)) ≡ r n
+value_number r ring point n =
+    let one : r n *ℤ pos 1 +ℤ pos 0 ≡ r n = int_add_zero (r n *ℤ pos 1) ∙ int_mul_one (r n) in
+    ap r (weigh_front (monomial_value point) [] (r n) [] ∙ one) ∙ ring.twice n
+
+pub number_values : (r : ℤ → ℤ) → IsReduction r → (n : ℤ) (s : Polynomial) → s ≡ number_of r n → (point : ℕ → ℤ) → r (value_of point s) ≡ r n
+number_values r ring n s e point = ap (λ x. r (value_of point x)) e ∙ value_number r ring point n
+
+value_power : (r : ℤ → ℤ) → IsReduction r → (point : ℕ → ℤ) (u k : ℕ) → r (value_of point (power_of r u k)) ≡ r (int_pow (point u) k)
+value_power r ring point u zero = value_number r ring point (pos 1) ∙ ap r (sym (int_pow_zero (point u)))
+value_power r ring point u (suc k) =
+    let w = int_pow (point u) (suc k) *ℤ pos 1 in
+    let one : pos 1 *ℤ w ≡ int_pow (point u) (suc k) = int_one_mul w ∙ int_mul_one (int_pow (point u) (suc k)) in
+    ap r (weigh_front (monomial_value point) ((u, suc k) ∷ []) (r (pos 1)) [] ∙ int_add_zero (r (pos 1) *ℤ w))
+    ∙ reduced_weight r ring (pos 1) w
+    ∙ ap r one
+
+pub power_values : (r : ℤ → ℤ) → IsReduction r → (u k : ℕ) (s : Polynomial) → s ≡ power_of r u k → (point : ℕ → ℤ) → r (value_of point s) ≡ r (int_pow (point u) k)
+power_values r ring u k s e point = ap (λ x. r (value_of point x)) e ∙ value_power r ring point u k
+
+pub unknown_values : (r : ℤ → ℤ) → IsReduction r → (u : ℕ) (s : Polynomial) → s ≡ power_of r u 1 → (point : ℕ → ℤ) → r (value_of point s) ≡ r (point u)
+unknown_values r ring u s e point = power_values r ring u 1 s e point ∙ ap r (int_pow_one (point u))
+
+value_raised : (r : ℤ → ℤ) → IsReduction r → (point : ℕ → ℤ) (p : Polynomial) (k : ℕ) → r (value_of point (raised_by r p k)) ≡ r (int_pow (value_of point p) k)
+value_raised r ring point p zero = value_number r ring point (pos 1) ∙ ap r (sym (int_pow_zero (value_of point p)))
+value_raised r ring point p (suc k) =
+    let v = value_of point p in
+    value_product r ring point (raised_by r p k) p
+    ∙ ap r (int_mul_comm (value_of point (raised_by r p k)) v)
+    ∙ ring.products (value_of point (raised_by r p k)) (int_pow v k) v (value_raised r ring point p k)
+    ∙ ap r (sym (int_pow_suc v k))
+
+pub raised_values : (r : ℤ → ℤ) → IsReduction r → (p : Polynomial) (k : ℕ) (s : Polynomial) → s ≡ raised_by r p k → (point : ℕ → ℤ) → r (value_of point s) ≡ r (int_pow (value_of point p) k)
+raised_values r ring p k s e point = ap (λ x. r (value_of point x)) e ∙ value_raised r ring point p k
+
+-- the product with -1
+pub negated_values : (r : ℤ → ℤ) → IsReduction r → (p s : Polynomial) → s ≡ scaled r ([], negsuc 0) p → (point : ℕ → ℤ) → r (value_of point s) ≡ r (neg_ℤ (value_of point p))
+negated_values r ring p s e point = scaled_values r ring (negsuc 0) p s e point ∙ ap r (int_minus_one_mul (value_of point p))
+
+pub raised_is : (r : ℤ → ℤ) → IsReduction r → (p : Polynomial) (k : ℕ) → IsPolynomial r p → IsPolynomial r (raised_by r p k)
+raised_is r ring p zero h = number_is r ring (pos 1)
+raised_is r ring p (suc k) h = product_is r ring (raised_by r p k) p (raised_is r ring p k h) h
+
+pub raised_over : (r : ℤ → ℤ) → IsReduction r → (p : Polynomial) (k : ℕ) (s : Polynomial) → s ≡ raised_by r p k → IsPolynomial r p → IsPolynomial r s
+raised_over r ring p k s e h = let P : Polynomial → Type 0 = λ x. IsPolynomial r x in subst P (sym e) (raised_is r ring p k h)

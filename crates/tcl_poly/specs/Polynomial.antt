@@ -1,10 +1,10 @@
 -- Polynomials as lists of terms in decreasing order of their monomials, without a coefficient 0. Each definition takes
 -- the reduction r of its ring: what each integer is in that ring.
-use Rattle.std.specs.Prelude.{◌≡◌, ℕ, ◌+◌, List, [], ◌∷◌, map, ℤ, pos, negsuc, zero, suc, ◌+ℤ◌, ◌*ℤ◌, unsigned_abs, Option}
+use Rattle.std.specs.Prelude.{◌≡◌, ℕ, ◌+◌, List, [], ◌∷◌, map, ℤ, pos, negsuc, zero, suc, ◌+ℤ◌, ◌*ℤ◌, unsigned_abs, Option, Bool, false, ◌||◌}
 use Rattle.std.specs.Int.{int_pow}
 use Rattle.std.specs.declared.cmp.Ordering.{Ordering}
 use Rattle.std.specs.declared.cmp.Ordering.TheVariants.{Less, Equal, Greater}
-use Rattle.tcl_ring.specs.Reduction.{reduced_by}
+use Rattle.tcl_ring.specs.Reduction.{reduced_by, is_wide}
 use Rattle.tcl_poly.specs.Monomial.{Monomial, IsMonomial, IsLess, times, order, degree}
 
 -- a term: a monomial and its coefficient
@@ -34,6 +34,10 @@ front m (pos zero) p = p
 front m (pos (suc n)) p = (m, pos (suc n)) ∷ p
 front m (negsuc n) p = (m, negsuc n) ∷ p
 
+-- the constant n
+abbrev pub number_of : (ℤ → ℤ) → ℤ → Polynomial
+number_of r n = front [] (r n) []
+
 -- a term added at its place
 abbrev pub add_at : (ℤ → ℤ) → Ordering → Term → Term → Polynomial → Polynomial → Polynomial
 add_at r Less t u p further = u ∷ further
@@ -59,10 +63,20 @@ abbrev pub product_of : (ℤ → ℤ) → Polynomial → Polynomial → Polynomi
 product_of r [] q = []
 product_of r (t ∷ p) q = sum_of r (scaled r t q) (product_of r p q)
 
+-- p to the power k; every power 0 is 1
+abbrev pub raised_by : (ℤ → ℤ) → Polynomial → ℕ → Polynomial
+raised_by r p zero = number_of r (pos 1)
+raised_by r p (suc k) = product_of r (raised_by r p k) p
+
 -- the sum of the magnitudes of the coefficients
 abbrev pub norm_of : Polynomial → ℕ
 norm_of [] = 0
 norm_of (t ∷ p) = unsigned_abs t.1 + norm_of p
+
+-- whether the magnitude of some coefficient is too great for the ring of that modulus
+abbrev pub has_wide : Option ℕ → Polynomial → Bool
+has_wide m [] = false
+has_wide m (t ∷ p) = is_wide m (unsigned_abs t.1) || has_wide m p
 
 -- the degree, which is that of the first term; 0 for the zero polynomial
 abbrev pub degree_of : {E : Type 0} → List (Monomial × E) → ℕ
@@ -99,10 +113,7 @@ value_of point p = weigh (monomial_value point) p
 abbrev pub IsOver : {E : Type 0} → Option ℕ → (E → ℤ) → List (Monomial × E) → Type 0
 IsOver m value p = IsPolynomial (reduced_by m) (terms_of value p)
 
--- the constant n, and a power of an unknown by its key
-abbrev pub number_of : (ℤ → ℤ) → ℤ → Polynomial
-number_of r n = front [] (r n) []
-
+-- a power of an unknown by its key
 abbrev pub power_of : (ℤ → ℤ) → ℕ → ℕ → Polynomial
 power_of r key zero = number_of r (pos 1)
 power_of r key (suc k) = front ((key, suc k) ∷ []) (r (pos 1)) []

@@ -1,11 +1,13 @@
 // Coefficients: sums and products that are known to fit, and norms that stop at the limit.
 
-ghost use Rattle.std.specs.Prelude.{◌≡◌, ◌+◌, ◌^◌, ◌++◌, ◌∷◌, [], min, false, pos, ◌+ℤ◌, ◌*ℤ◌, unsigned_abs, OnOk};
+ghost use Rattle.std.specs.Prelude.{◌≡◌, ℕ, ◌+◌, ◌<◌, ◌^◌, ◌++◌, ◌∷◌, [], drop, length, slice_index_or, min, false, pos, ◌+ℤ◌, ◌*ℤ◌, neg_ℤ, unsigned_abs, OnOk};
 ghost use Rattle.tcl_ring.specs.Reduction as r;
+ghost use Rattle.tcl_poly.specs.Monomial.{Monomial};
 ghost use Rattle.tcl_poly.specs.Polynomial.{front, norm_of, terms_of};
 
 use crate::Mono;
-use std::alloc::AllocError;
+use std::alloc::{AllocError, Global};
+use std::mem;
 use tcl_num::saturating_sum;
 use tcl_ring::Ring;
 
@@ -53,6 +55,16 @@ pub(crate) fn product_of_elements<R: Ring>(ring: &R, a: &R::Elem, b: &R::Elem) -
     }
 }
 
+pub(crate) fn negation_of_element<R: Ring>(ring: &R, a: &R::Elem) -> R::Elem
+    requires { r.is_wide (R.modulus_of ring.now) (unsigned_abs (neg_ℤ (R.amount ring.now a.now))) ≡ false }
+    ensures { R.amount ring.now result ≡ r.reduced_by (R.modulus_of ring.now) (neg_ℤ (R.amount ring.now a.now)) }
+{
+    match ring.neg(a) {
+        Ok(negation) => negation,
+        Err(_) => unreachable!(),
+    }
+}
+
 /// Adds the term at the end, unless its coefficient is 0.
 pub(crate) fn push_term<R: Ring>(
     ring: &R,
@@ -79,4 +91,16 @@ pub(crate) fn push_copy<E: Copy>(
     let mono = term.0.copy()?;
     terms.push((mono, term.1))?;
     Ok(())
+}
+
+/// Takes the term at that place out, and leaves one without factors in its stead.
+pub(crate) fn take_term<E: Copy>(alloc: Global, terms: &mut Vec<(Mono, E)>, k: usize) -> (Mono, E)
+    requires { k < length terms.old.items }
+    ensures term { (d : Monomial × E) → result ≡ slice_index_or terms.old.items k d }
+    ensures rest { drop (k + 1) terms.new.items ≡ drop (k + 1) terms.old.items }
+    ensures length { length terms.new.items ≡ length terms.old.items }
+{
+    let term = &mut terms[k];
+    let mono = mem::replace(&mut term.0, Mono::new(alloc));
+    (mono, term.1)
 }

@@ -1,6 +1,7 @@
 // Polynomials.
 
-ghost use Rattle.std.specs.Prelude.{◌≡◌, ℕ, ℤ, ◌+◌, ◌<◌, ◌^◌, ◌↔◌, [], length, min, true, false, pos, unsigned_abs, Some, None, IsTrue, IfOk};
+ghost use Rattle.std.specs.Prelude.{◌≡◌, ℕ, ℤ, ◌+◌, ◌<◌, ◌^◌, ◌↔◌, [], length, min, true, false, pos, unsigned_abs, Some, None, ◌∷◌, ◌++◌, IsTrue, IfOk, OnOk, OnErr};
+ghost use Rattle.std.specs.Int.{int_pow};
 ghost use Rattle.tcl_ring.specs.Reduction as r;
 ghost use Rattle.tcl_poly.specs.Unknown.{key_of};
 ghost use Rattle.tcl_poly.specs.Polynomial as p;
@@ -20,6 +21,17 @@ pub enum PolyFault {
     Wide,
     /// Memory has run out.
     Memory,
+}
+
+impl From<AllocError> for PolyFault {
+    ghost use Rattle.std.specs.Prelude.{◌≡◌};
+    ghost use Rattle.tcl_poly.specs.declared.poly.PolyFault.TheVariants.{Memory};
+
+    ghost from_gives = { λ _ fault. fault ≡ Memory };
+
+    fn from(_error: AllocError) -> PolyFault {
+        PolyFault::Memory
+    }
 }
 
 /// A polynomial: terms in decreasing order of their monomials, whose coefficients are not 0.
@@ -52,16 +64,15 @@ pub fn zero<R: Ring>(alloc: Global) -> Poly<R>
 pub fn number<R: Ring>(alloc: Global, ring: &R, n: i128) -> Result<Poly<R>, PolyFault>
     ensures number { IfOk result (λ c. p.terms_of (R.amount ring.now) c ≡ p.number_of (r.reduced_by (R.modulus_of ring.now)) n) }
     ensures over { IfOk result (λ c. p.IsOver (R.modulus_of ring.now) (R.amount ring.now) c) }
+    ensures values { IfOk result (λ c. (point : ℕ → ℤ) → r.reduced_by (R.modulus_of ring.now) (p.value_of point (p.terms_of (R.amount ring.now) c)) ≡ r.reduced_by (R.modulus_of ring.now) n) }
     ensures wide { result ≡ Err Wide → r.is_wide (R.modulus_of ring.now) (unsigned_abs n) ≡ true }
     ensures not_wide { IfOk result (λ _. r.is_wide (R.modulus_of ring.now) (unsigned_abs n) ≡ false) }
 {
     match ring.number(n) {
         Ok(coefficient) => {
             let mut terms = Vec::new(alloc);
-            match push_term(ring, &mut terms, Mono::new(alloc), coefficient) {
-                Ok(()) => Ok(Poly { terms }),
-                Err(_) => Err(PolyFault::Memory),
-            }
+            push_term(ring, &mut terms, Mono::new(alloc), coefficient)?;
+            Ok(Poly { terms })
         }
         Err(_) => Err(PolyFault::Wide),
     }
@@ -78,9 +89,11 @@ pub fn is_zero<R: Ring>(a: &Poly<R>) -> bool
 pub fn unknown<R: Ring>(alloc: Global, ring: &R, u: Unknown) -> Result<Poly<R>, PolyFault>
     ensures unknown { IfOk result (λ x. p.terms_of (R.amount ring.now) x ≡ p.power_of (r.reduced_by (R.modulus_of ring.now)) (key_of u) 1) }
     ensures over { IfOk result (λ x. p.IsOver (R.modulus_of ring.now) (R.amount ring.now) x) }
+    ensures values { IfOk result (λ x. (point : ℕ → ℤ) → r.reduced_by (R.modulus_of ring.now) (p.value_of point (p.terms_of (R.amount ring.now) x)) ≡ r.reduced_by (R.modulus_of ring.now) (point (key_of u))) }
     ensures not_wide { result ≡ Err Wide → ⊥ }
 {
-    power(alloc, ring, u, 1)
+    let x = power(alloc, ring, u, 1)?;
+    Ok(x)
 }
 
 /// A power of an unknown. The power 0 is the number 1.
@@ -92,12 +105,23 @@ pub fn power<R: Ring>(
 ) -> Result<Poly<R>, PolyFault>
     ensures power { IfOk result (λ x. p.terms_of (R.amount ring.now) x ≡ p.power_of (r.reduced_by (R.modulus_of ring.now)) (key_of u) exponent) }
     ensures over { IfOk result (λ x. p.IsOver (R.modulus_of ring.now) (R.amount ring.now) x) }
+    ensures values { IfOk result (λ x. (point : ℕ → ℤ) → r.reduced_by (R.modulus_of ring.now) (p.value_of point (p.terms_of (R.amount ring.now) x)) ≡ r.reduced_by (R.modulus_of ring.now) (int_pow (point (key_of u)) exponent)) }
     ensures not_wide { result ≡ Err Wide → ⊥ }
 {
-    match power_terms(alloc, ring, u, exponent) {
-        Ok(terms) => Ok(Poly { terms }),
-        Err(_) => Err(PolyFault::Memory),
-    }
+    let terms = power_terms(alloc, ring, u, exponent)?;
+    Ok(Poly { terms })
+}
+
+/// The terms of the number 1: none where the modulus is 1.
+pub(crate) fn one_terms<R: Ring>(
+    alloc: Global,
+    ring: &R,
+) -> Result<Vec<(Mono, R::Elem)>, AllocError>
+    ensures { IfOk result (λ x. p.terms_of (R.amount ring.now) x.items ≡ p.number_of (r.reduced_by (R.modulus_of ring.now)) (pos 1)) }
+{
+    let mut terms = Vec::new(alloc);
+    push_term(ring, &mut terms, Mono::new(alloc), one(ring))?;
+    Ok(terms)
 }
 
 fn power_terms<R: Ring>(
@@ -163,6 +187,22 @@ impl<R: Ring> Poly<R> {
         ensures { result ≡ terms.items }
     {
         Poly { terms }
+    }
+
+    /// The terms, which are moved out.
+    pub fn into_terms(self) -> Vec<(Mono, R::Elem)>
+        ensures { result.items ≡ self }
+    {
+        self.terms
+    }
+
+    /// Adds a term at the end. The polynomial is over a ring afterwards where it is over that ring with the term.
+    pub fn push(&mut self, mono: Mono, coefficient: R::Elem) -> Result<(), AllocError>
+        ensures pushed { OnOk result (self.new ≡ self.old ++ (mono, coefficient) ∷ []) }
+        ensures unchanged { OnErr result (self.new ≡ self.old) }
+    {
+        self.terms.push((mono, coefficient))?;
+        Ok(())
     }
 
     pub(crate) fn allocator(&self) -> Global {

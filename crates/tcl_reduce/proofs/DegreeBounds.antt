@@ -3,10 +3,10 @@ use Rattle.std.proofs.Common.{◌≡◌, ℕ, zero, suc, max, ◌+◌, ◌*◌, 
 use Rattle.std.proofs.Math.Nat.{mul-le-mul_right}
 use Rattle.std.proofs.lemmas.Bool.Decides.{nat_tests}
 use Rattle.tcl_poly.specs.Monomial.{Monomial, exponent, degree}
-use Rattle.tcl_poly.specs.Polynomial.{Term, Polynomial, IsPolynomial, front, scaled, product_of, norm_of, degree_of, power_of}
+use Rattle.tcl_poly.specs.Polynomial.{Term, Polynomial, IsPolynomial, front, scaled, product_of, norm_of, degree_of, power_of, raised_by}
 use Rattle.tcl_poly.proofs.Degrees.{IsWithin, within_more, degree_within, within_sum, within_scaled, within_product}
 use Rattle.tcl_reduce.specs.Parts.{without, part, top, coefficients}
-use Rattle.tcl_reduce.specs.Substitution.{power_by, quotient_by, substituted, cofactor_by, if_any, degree_by}
+use Rattle.tcl_reduce.specs.Substitution.{quotient_by, substituted, cofactor_by, if_any, degree_by}
 use Rattle.tcl_reduce.specs.Reduction.{Definition, equation_of}
 use Rattle.tcl_reduce.proofs.PartLemmas.{power_monomial, power_is_front, degree_without}
 use Rattle.tcl_reduce.proofs.Gathering.{last_or_before}
@@ -34,11 +34,11 @@ unknown_within r u k =
 definition_within : (r : ℤ → ℤ) (d : Polynomial) → IsPolynomial r d → IsWithin (depth d) d
 definition_within r d h = within_more (degree_of d) (depth d) d (omega arith) (degree_within r d h)
 
-pub power_within : (r : ℤ → ℤ) (d : Polynomial) (k : ℕ) → IsPolynomial r d → IsWithin (k * depth d) (power_by r d k)
+pub power_within : (r : ℤ → ℤ) (d : Polynomial) (k : ℕ) → IsPolynomial r d → IsWithin (k * depth d) (raised_by r d k)
 power_within r d zero h = within_front (0 * depth d) [] (r (pos 1)) [] (omega arith) tt
 power_within r d (suc k) h =
-    within_more (k * depth d + depth d) (suc k * depth d) (power_by r d (suc k)) (omega arith)
-    (within_product r (k * depth d) (depth d) (power_by r d k) d (power_within r d k h) (definition_within r d h))
+    within_more (k * depth d + depth d) (suc k * depth d) (raised_by r d (suc k)) (omega arith)
+    (within_product r (k * depth d) (depth d) (raised_by r d k) d (power_within r d k h) (definition_within r d h))
 
 at_least : (k n : ℕ) → k ≤ k * max 1 n
 at_least k zero = omega arith
@@ -115,10 +115,10 @@ part_within r u k f h = degree_within r (part u k f) h
 pub substituted_within : (r : ℤ → ℤ) (u : ℕ) (d f : Polynomial) (k n : ℕ) → IsPolynomial r d → ((j : ℕ) → IsPolynomial r (part u j f)) → ((j : ℕ) → j < k → degree_of (part u j f) + j * depth d ≤ n) → IsWithin n (substituted r d (coefficients u f) k)
 substituted_within r u d f zero n h i rows = tt
 substituted_within r u d f (suc k) n h i rows =
-    within_sum r n (substituted r d (coefficients u f) k) (product_of r (part u k f) (power_by r d k))
+    within_sum r n (substituted r d (coefficients u f) k) (product_of r (part u k f) (raised_by r d k))
     (substituted_within r u d f k n h i (λ j l. rows j (omega (arith, l))))
-    (within_more (degree_of (part u k f) + k * depth d) n (product_of r (part u k f) (power_by r d k)) (rows k (omega arith))
-    (within_product r (degree_of (part u k f)) (k * depth d) (part u k f) (power_by r d k) (part_within r u k f (i k)) (power_within r d k h)))
+    (within_more (degree_of (part u k f) + k * depth d) n (product_of r (part u k f) (raised_by r d k)) (rows k (omega arith))
+    (within_product r (degree_of (part u k f)) (k * depth d) (part u k f) (raised_by r d k) (part_within r u k f (i k)) (power_within r d k h)))
 
 pub product_nothing : (r : ℤ → ℤ) (p : Polynomial) → product_of r p [] ≡ []
 product_nothing r [] = refl

@@ -2,11 +2,11 @@
 use Rattle.std.proofs.Common.{◌≡◌, ℕ, zero, suc, max, ◌+◌, ◌*◌, ◌^◌, ◌<◌, ◌≤◌, refl, ap, arith, false, leb, ℤ, Option, Some, None}
 use Rattle.std.proofs.Math.Nat.{pow-zero, pow-suc, one-le-pow, mul-le-mul, mul-le-mul_left, mul-le-mul_right}
 use Rattle.tcl_ring.specs.Reduction.{reduced_by, is_wide}
-use Rattle.tcl_poly.specs.Polynomial.{Polynomial, IsPolynomial, product_of, power_of, norm_of, degree_of}
+use Rattle.tcl_poly.specs.Polynomial.{Polynomial, IsPolynomial, product_of, power_of, norm_of, degree_of, raised_by}
 use Rattle.tcl_poly.proofs.Norms.{narrower, norm_product}
 use Rattle.tcl_poly.proofs.Degrees.{within_degree}
 use Rattle.tcl_reduce.specs.Parts.{part, top, coefficients}
-use Rattle.tcl_reduce.specs.Substitution.{power_by, quotient_by, substituted, cofactor_by, bound_of, degree_by}
+use Rattle.tcl_reduce.specs.Substitution.{quotient_by, substituted, cofactor_by, bound_of, degree_by}
 use Rattle.tcl_reduce.specs.Fits.{RowFits, StepFits}
 use Rattle.tcl_reduce.specs.Step.{IsCovered}
 use Rattle.tcl_reduce.proofs.PartLemmas.{part_is}
@@ -50,8 +50,8 @@ quotient_below : (r : ℤ → ℤ) (u : ℕ) (d : Polynomial) (j : ℕ) → IsPo
 quotient_below r u d zero h = omega arith
 quotient_below r u d (suc i) h = omega (arith, within_degree (i * depth d) (quotient_by r u d (suc i)) (quotient_within r u d i h))
 
-power_degree : (r : ℤ → ℤ) (d : Polynomial) (j : ℕ) → IsPolynomial r d → degree_of (power_by r d j) ≤ j * depth d
-power_degree r d j h = within_degree (j * depth d) (power_by r d j) (power_within r d j h)
+power_degree : (r : ℤ → ℤ) (d : Polynomial) (j : ℕ) → IsPolynomial r d → degree_of (raised_by r d j) ≤ j * depth d
+power_degree r d j h = within_degree (j * depth d) (raised_by r d j) (power_within r d j h)
 
 -- ---- together
 
@@ -90,12 +90,12 @@ row_fits m u d f spent k j a l =
     let deep = depths m u d f spent k j a l in
     let fit : (n : (ℤ → ℤ) → ℕ) → n whole ≤ norm_of f + bound_of d fs j → is_wide m (n r) ≡ false =
     λ n h. below_bound m u d f spent k j (n r) a l (at_whole m n (norm_of f + bound_of d fs j) h) in
-    let row : norm_of p * norm_of (power_by whole d j) ≤ norm_of p * growth d ^ j = mul-le-mul_left (norm_of p) (power_norm d j) in
+    let row : norm_of p * norm_of (raised_by whole d j) ≤ norm_of p * growth d ^ j = mul-le-mul_left (norm_of p) (power_norm d j) in
     record {
       over = part_is r u j f a.polynomial;
       degrees = omega (arith, deep, power_degree r d j a.definition);
-      product = fit (λ s. norm_of p * norm_of (power_by s d j)) (omega (arith, row, row_sum u d f j, part_norm u 0 f));
-      sum = fit (λ s. norm_of (substituted s d fs j) + norm_of (product_of s p (power_by s d j))) (omega (arith, substituted_row u d f j, row_sum u d f j, part_norm u 0 f));
+      product = fit (λ s. norm_of p * norm_of (raised_by s d j)) (omega (arith, row, row_sum u d f j, part_norm u 0 f));
+      sum = fit (λ s. norm_of (substituted s d fs j) + norm_of (product_of s p (raised_by s d j))) (omega (arith, substituted_row u d f j, row_sum u d f j, part_norm u 0 f));
       cofactor_degrees = omega (arith, deep, quotient_below r u d j a.definition);
       cofactor_product = fit (λ s. norm_of p * norm_of (quotient_by s u d j)) (omega (arith, cofactor_sum u d f j));
       cofactor_sum = fit (λ s. norm_of (cofactor_by s u d fs j) + norm_of (product_of s p (quotient_by s u d j))) (omega (arith, norm_product p (quotient_by whole u d j), cofactor_sum u d f j));
@@ -111,10 +111,10 @@ step_fits m u d f spent k j a l =
     let q_rises : max 1 j * depth d ≤ suc k * depth d = mul-le-mul_right (depth d) (omega (arith, l)) in
     let fit : (n : (ℤ → ℤ) → ℕ) → n whole ≤ bound_of d fs (suc k) → is_wide m (n r) ≡ false =
     λ n h. below_bound m u d f spent k (suc k) (n r) a (omega arith) (at_whole m n (norm_of f + bound_of d fs (suc k)) (omega (arith, h))) in
-    let grown : norm_of (power_by whole d j) * norm_of d ≤ growth d ^ j * growth d = mul-le-mul (power_norm d j) (omega arith) in
+    let grown : norm_of (raised_by whole d j) * norm_of d ≤ growth d ^ j * growth d = mul-le-mul (power_norm d j) (omega arith) in
     record {
       power_degrees = omega (arith, deepest, rises, power_degree r d j a.definition);
-      power_product = fit (λ s. norm_of (power_by s d j) * norm_of d) (omega (arith, grown, pow-suc (growth d) j, power_bound u d f (suc j) k some (omega (arith, l))));
+      power_product = fit (λ s. norm_of (raised_by s d j) * norm_of d) (omega (arith, grown, pow-suc (growth d) j, power_bound u d f (suc j) k some (omega (arith, l))));
       quotient_degrees = omega (arith, deepest, q, q_rises);
       quotient_product = fit (λ s. norm_of (quotient_by s u d j) * norm_of d) (omega (arith, quotient_grows u d j, quotient_bound u d f j k some (omega (arith, l))));
       quotient_sum = fit (λ s. norm_of (product_of s (quotient_by s u d j) d) + norm_of (power_of s u j)) (omega (arith, norm_product (quotient_by whole u d j) d, unknown_norm u j, quotient_grows u d j, quotient_bound u d f j k some (omega (arith, l))));

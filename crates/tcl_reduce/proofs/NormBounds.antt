@@ -3,10 +3,10 @@ use Rattle.std.proofs.Common.{◌≡◌, ℕ, zero, suc, max, ◌+◌, ◌*◌, 
 use Rattle.std.proofs.Math.Nat.{pow-zero, pow-suc, one-le-pow, pow-le-pow_right, mul-le-mul, mul-le-mul_left, mul-le-mul_right}
 use Rattle.tcl_ring.specs.Reduction.{reduced_by}
 use Rattle.tcl_poly.specs.Monomial.{exponent}
-use Rattle.tcl_poly.specs.Polynomial.{Term, Polynomial, IsPolynomial, sum_of, product_of, scaled, norm_of, power_of}
+use Rattle.tcl_poly.specs.Polynomial.{Term, Polynomial, IsPolynomial, sum_of, product_of, scaled, norm_of, power_of, raised_by}
 use Rattle.tcl_poly.proofs.Norms.{norm_sum, norm_product, norm_scaled}
 use Rattle.tcl_reduce.specs.Parts.{without, part, top, coefficients}
-use Rattle.tcl_reduce.specs.Substitution.{power_by, quotient_by, substituted, cofactor_by, bound_of}
+use Rattle.tcl_reduce.specs.Substitution.{quotient_by, substituted, cofactor_by, bound_of}
 use Rattle.tcl_reduce.specs.Reduction.{Definition, equation_of}
 use Rattle.tcl_reduce.proofs.Gathering.{last_or_before}
 
@@ -35,12 +35,12 @@ equation_norm x =
 
 -- ---- powers and quotients
 
-pub power_norm : (d : Polynomial) (k : ℕ) → norm_of (power_by whole d k) ≤ growth d ^ k
+pub power_norm : (d : Polynomial) (k : ℕ) → norm_of (raised_by whole d k) ≤ growth d ^ k
 power_norm d zero = omega (arith, pow-zero (growth d))
 power_norm d (suc k) =
-    let n = norm_of (power_by whole d k) in
+    let n = norm_of (raised_by whole d k) in
     let grown : n * norm_of d ≤ growth d ^ k * growth d = mul-le-mul (power_norm d k) (omega arith) in
-    omega (arith, norm_product (power_by whole d k) d, grown, pow-suc (growth d) k)
+    omega (arith, norm_product (raised_by whole d k) d, grown, pow-suc (growth d) k)
 
 pub quotient_norm : (u : ℕ) (d : Polynomial) (k : ℕ) → norm_of (quotient_by whole u d (suc k)) ≤ suc k * growth d ^ k
 quotient_norm u d zero = omega (arith, norm_sum [] (power_of whole u 0), unknown_norm u 0, pow-zero (growth d))
@@ -59,16 +59,16 @@ row_bound a n g k h =
     let more : a * (g ^ k * (1 + n)) ≤ suc k * (a * (g ^ k * (1 + n))) = omega arith in
     omega (arith, step, more, ap (λ x. a * x) (pow-suc g k))
 
-pub substituted_row : (u : ℕ) (d f : Polynomial) (k : ℕ) → norm_of (product_of whole (part u k f) (power_by whole d k)) ≤ norm_of (part u k f) * growth d ^ k
+pub substituted_row : (u : ℕ) (d f : Polynomial) (k : ℕ) → norm_of (product_of whole (part u k f) (raised_by whole d k)) ≤ norm_of (part u k f) * growth d ^ k
 substituted_row u d f k =
-    le_trans (norm_product (part u k f) (power_by whole d k)) (mul-le-mul_left (norm_of (part u k f)) (power_norm d k))
+    le_trans (norm_product (part u k f) (raised_by whole d k)) (mul-le-mul_left (norm_of (part u k f)) (power_norm d k))
 
 pub substituted_norm : (u : ℕ) (d f : Polynomial) (k : ℕ) → norm_of (substituted whole d (coefficients u f) (suc k)) ≤ norm_of (part u 0 f) + bound_of d (coefficients u f) k
 substituted_norm u d f zero =
-    omega (arith, norm_sum [] (product_of whole (part u 0 f) (power_by whole d 0)), substituted_row u d f 0, ap (λ x. norm_of (part u 0 f) * x) (pow-zero (growth d)))
+    omega (arith, norm_sum [] (product_of whole (part u 0 f) (raised_by whole d 0)), substituted_row u d f 0, ap (λ x. norm_of (part u 0 f) * x) (pow-zero (growth d)))
 substituted_norm u d f (suc k) =
     let a = part u (suc k) f in
-    omega (arith, norm_sum (substituted whole d (coefficients u f) (suc k)) (product_of whole a (power_by whole d (suc k))), substituted_norm u d f k, substituted_row u d f (suc k), row_bound (norm_of a) (norm_of d) (growth d) k (omega arith))
+    omega (arith, norm_sum (substituted whole d (coefficients u f) (suc k)) (product_of whole a (raised_by whole d (suc k))), substituted_norm u d f k, substituted_row u d f (suc k), row_bound (norm_of a) (norm_of d) (growth d) k (omega arith))
 
 pub cofactor_row : (u : ℕ) (d f : Polynomial) (k : ℕ) → norm_of (product_of whole (part u (suc k) f) (quotient_by whole u d (suc k))) * (1 + norm_of d) ≤ suc k * norm_of (part u (suc k) f) * growth d ^ k * (1 + norm_of d)
 cofactor_row u d f k =

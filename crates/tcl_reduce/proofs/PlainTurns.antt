@@ -2,8 +2,9 @@
 use Rattle.std.proofs.Common.{◌≡◌, ℕ, zero, suc, min, ◌+◌, ◌^◌, ◌≤◌, refl, sym, ◌∙◌, ap, subst, arith, List, [], ◌∷◌, ◌++◌, length, map, reverse, slice_get, ℤ, Option, Some, None, unwrap_or}
 use Rattle.std.proofs.lemmas.List.{reverse-append, map-append, length-map}
 use Rattle.tcl_ring.specs.Reduction.{reduced_by, IsModulus}
+use Rattle.tcl_poly.specs.Unknown.{variable_key}
 use Rattle.tcl_poly.specs.Polynomial.{Polynomial, IsPolynomial, terms_of, norm_of, degree_of, IsOver}
-use Rattle.tcl_cofactor.specs.Combination.{Terms}
+use Rattle.tcl_poly.specs.Combination.{Terms}
 use Rattle.tcl_poly.specs.declared.cofactors.Cofactor.{Cofactor}
 use Rattle.tcl_reduce.specs.declared.answer.Plain.{Plain}
 use Rattle.tcl_reduce.specs.declared.answer.Plain.TheVariants.{Zero, Rest, Wide, Large, Memory}
@@ -28,9 +29,9 @@ later_place view least k [] x h e = absurd (no_some x e)
 later_place view least zero (y ∷ xs) x h e = omega (arith, h.0, ap (λ o. (view (unwrap_or o y)).0) e)
 later_place view least (suc k) (y ∷ xs) x h e = omega (arith, h.0, later_place view (suc (view y).0) k xs x h.1 e)
 
-pub definition_read : {E : Type 0} (value : E → ℤ) (xs : List (Defined E)) (k : ℕ) (x : Defined E) → slice_get xs k ≡ Some x → definition_at (definitions_of value xs) k ≡ (x.0, x.1, terms_of value x.2)
+pub definition_read : {E : Type 0} (value : E → ℤ) (xs : List (Defined E)) (k : ℕ) (x : Defined E) → slice_get xs k ≡ Some x → definition_at (definitions_of value xs) k ≡ (x.0, variable_key x.1, terms_of value x.2)
 definition_read value [] k x e = absurd (no_some x e)
-definition_read value (y ∷ xs) zero x e = ap (λ o. let z = unwrap_or o y in (z.0, z.1, terms_of value z.2)) e
+definition_read value (y ∷ xs) zero x e = ap (λ o. let z = unwrap_or o y in (z.0, variable_key z.1, terms_of value z.2)) e
 definition_read value (y ∷ xs) (suc k) x e = definition_read value xs k x e
 
 pub read_over : {E : Type 0} (m : Option ℕ) (value : E → ℤ) (xs : List (Defined E)) (k : ℕ) (x : Defined E) → slice_get xs k ≡ Some x → AreDefinitions (reduced_by m) (definitions_of value xs) → IsOver m value x.2
@@ -75,7 +76,7 @@ first_covered (Some m) n spent e = tt
 pub go_first : {E : Type 0} (m : Option ℕ) (value : E → ℤ) (xs : List (Defined E)) (k spent : ℕ) (f rest : Polynomial) → k ≡ length xs → rest ≡ f → spent ≡ min (norm_of f) (2 ^ 127) → reduced_from m (definitions_of value xs) k rest spent [] ≡ reduced_of m (definitions_of value xs) f
 go_first m value xs k spent f rest e s n =
     let defs = definitions_of value xs in
-    let count : k ≡ length defs = e ∙ sym (length-map xs (λ x. (x.0, x.1, terms_of value x.2))) in
+    let count : k ≡ length defs = e ∙ sym (length-map xs (λ x. (x.0, variable_key x.1, terms_of value x.2))) in
     (λ i. reduced_from m defs (count i) (s i) (n i) []) ∙ sym (reduction_saturates m defs (length defs) f (norm_of f) [])
 
 -- ---- cofactors, from the last to the first
@@ -97,8 +98,8 @@ pub plain_ends : {R E : Type 0} (value : E → ℤ) (end whole : Reduced) (resul
 plain_ends value end whole result e h = let P : Reduced → Type 0 = λ o. IsPlain value o result in subst P e h
 
 pub plain_shown : {R E : Type 0} (m : Option ℕ) → IsModulus m → (value : E → ℤ) (defs : List Definition) (f : Polynomial) (equations : List (Terms E)) (result : Plain R E) → AreDefinitions (reduced_by m) defs → IsPolynomial (reduced_by m) f → degree_of f ≤ 1024 → BeginsWith m value defs equations → IsPlain value (reduced_of m defs f) result → IsShown m value equations f result
-plain_shown m modulus value defs f equations (Zero cs) over h d begins e = remainder_holds m value defs f [] (numbered cs) equations modulus over h d begins e
-plain_shown m modulus value defs f equations (Rest rest cs) over h d begins e = remainder_holds m value defs f (terms_of value rest) (numbered cs) equations modulus over h d begins e.1
+plain_shown m modulus value defs f equations (Zero cs spent) over h d begins e = remainder_holds m value defs f [] (numbered cs) spent equations modulus over h d begins e
+plain_shown m modulus value defs f equations (Rest rest cs spent) over h d begins e = remainder_holds m value defs f (terms_of value rest) (numbered cs) spent equations modulus over h d begins e.1
 plain_shown m modulus value defs f equations (Wide at) over h d begins e = tt
 plain_shown m modulus value defs f equations (Large what n) over h d begins e = tt
 plain_shown m modulus value defs f equations Memory over h d begins e = tt

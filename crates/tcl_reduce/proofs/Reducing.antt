@@ -149,7 +149,7 @@ next_state m ring e number end x first f spent k cs s l h state t w deep =
 
 -- what the end of a reduction says
 abbrev pub Ends : Option ℕ → (ℕ → Polynomial) → ℕ → Polynomial → Reduced → Type 0
-Ends m e end first (Done g cs) = (spent : ℕ) × IsState m e 0 end first g spent cs
+Ends m e end first (Done g cs n) = (spent : ℕ) × IsState m e 0 end first g spent cs
 Ends m e end first (TooWide at) = Unit {0}
 Ends m e end first (TooLarge what n) = Unit {0}
 

@@ -4,7 +4,7 @@ use Rattle.tcl_ring.specs.Reduction.{IsModulus, reduced_by, is_wide}
 use Rattle.tcl_ring.proofs.Reductions.{is_reduction}
 use Rattle.tcl_poly.specs.Polynomial.{Polynomial, IsPolynomial, terms_of, sum_of, product_of, norm_of, degree_of}
 use Rattle.tcl_poly.proofs.TermLists.{degree_of_values, terms_itself}
-use Rattle.tcl_cofactor.specs.Combination.{Terms, equation_at, combination_of, weight_of, AreCofactors}
+use Rattle.tcl_poly.specs.Combination.{Terms, equation_at, combination_of, weight_of, AreCofactors}
 use Rattle.tcl_reduce.specs.Reduction.{Definition, definition_at, equation_of, Reduced, reduced_of}
 use Rattle.tcl_reduce.specs.Reduction.Reduced.{Done}
 use Rattle.tcl_reduce.specs.Remainder.{AreDefinitions, BeginsWith, RiseFrom, IsRemainder, pairs_of}
@@ -61,8 +61,8 @@ state_remainder m value equations count f rest spent cs l state =
     }
 
 -- the law for any list of equations and of cofactors that stand for those of the reduction
-pub remainder_holds : {E : Type 0} (m : Option ℕ) (value : E → ℤ) (defs : List Definition) (f rest : Polynomial) (cs : List (ℕ × Terms E)) (equations : List (Terms E)) → IsModulus m → AreDefinitions (reduced_by m) defs → IsPolynomial (reduced_by m) f → degree_of f ≤ 1024 → BeginsWith m value defs equations → reduced_of m defs f ≡ Done rest (pairs_of value cs) → IsRemainder m value equations f rest cs
-remainder_holds m value defs f rest cs equations modulus over h d begins is =
+pub remainder_holds : {E : Type 0} (m : Option ℕ) (value : E → ℤ) (defs : List Definition) (f rest : Polynomial) (cs : List (ℕ × Terms E)) (spent : ℕ) (equations : List (Terms E)) → IsModulus m → AreDefinitions (reduced_by m) defs → IsPolynomial (reduced_by m) f → degree_of f ≤ 1024 → BeginsWith m value defs equations → reduced_of m defs f ≡ Done rest (pairs_of value cs) spent → IsRemainder m value equations f rest cs
+remainder_holds m value defs f rest cs spent equations modulus over h d begins is =
     let ring = is_reduction m modulus in
     let e = equations_by value equations in
     let count = length defs in
@@ -75,8 +75,8 @@ pairs_itself [] = refl
 pairs_itself (c ∷ cs) = λ i. (c.0, terms_itself c.1 i) ∷ pairs_itself cs i
 
 pub reductions_keep : ReductionsKeep
-reductions_keep m defs f rest cs equations modulus over h d begins is =
-    remainder_holds m (λ n. n) defs f rest cs equations modulus over h d begins (is ∙ ap (Done rest) (sym (pairs_itself cs)))
+reductions_keep m defs f rest cs spent equations modulus over h d begins is =
+    remainder_holds m (λ n. n) defs f rest cs spent equations modulus over h d begins (is ∙ ap (λ x. Done rest x spent) (sym (pairs_itself cs)))
 
 pub parts_make : PartsMake
 parts_make m u n f modulus h t = gathers (reduced_by m) (is_reduction m modulus) u f n h t

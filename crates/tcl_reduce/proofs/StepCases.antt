@@ -1,11 +1,11 @@
 -- The cases of one definition, from what its code has read and counted.
-use Rattle.std.proofs.Common.{◌≡◌, ℕ, suc, min, ◌+◌, ◌^◌, ◌<◌, ◌≤◌, sym, ◌∙◌, ap, subst, arith, true, false, leb, List, length, ℤ, Option}
-use Rattle.tcl_lang.specs.declared.outcome.At.TheVariants.{Line}
-use Rattle.tcl_lang.specs.declared.outcome.What.TheVariants.{Degree, Terms}
+use Rattle.std.proofs.Common.{◌≡◌, ℕ, zero, suc, min, ◌+◌, ◌^◌, ◌<◌, ◌≤◌, sym, ◌∙◌, ap, subst, arith, true, false, leb, List, length, ℤ, Option}
+use Rattle.tcl_port.specs.declared.limit.At.TheVariants.{Line}
+use Rattle.tcl_port.specs.declared.limit.What.TheVariants.{Degree, Terms}
 use Rattle.tcl_ring.specs.Reduction.{IsReduction, reduced_by, is_wide}
 use Rattle.tcl_poly.specs.Monomial.{Monomial}
 use Rattle.tcl_poly.specs.Polynomial.{Polynomial, IsPolynomial, terms_of, norm_of, degree_of}
-use Rattle.tcl_reduce.specs.Parts.{top, coefficients, by_power, AreParts}
+use Rattle.tcl_reduce.specs.Parts.{part, top, coefficients, by_power, joined_by, AreParts}
 use Rattle.tcl_reduce.specs.Substitution.{substituted, cofactor_by, bound_of, degree_by, terms_by}
 use Rattle.tcl_reduce.specs.Reduction.{Definition, Reduced, reduced_at}
 use Rattle.tcl_reduce.specs.Reduction.Reduced.{TooWide, TooLarge}
@@ -19,21 +19,21 @@ use Rattle.tcl_reduce.proofs.Stepping.{fault_wide, fault_degree, fault_terms, fa
 pub total_is : {E : Type 0} (value : E → ℤ) (u n : ℕ) (d : Polynomial) (f : List (Monomial × E)) (fs : List (List (Monomial × E))) (spent counted total : ℕ) → AreParts u f fs → counted ≡ min (bound_of d (values_by value (by_power fs)) n) (2 ^ 127) → total ≡ min (spent + counted) (2 ^ 127) → total ≡ min (spent + bound_of d (coefficients u (terms_of value f)) n) (2 ^ 127)
 total_is value u n d f fs spent counted total parts e s =
     total_saturates spent (bound_of d (coefficients u (terms_of value f)) n) counted total (2 ^ 127)
-    (e ∙ ap (λ g. min (bound_of d g n) (2 ^ 127)) (coefficients_are value u f fs parts)) s
+    (e ∙ ap (λ g. min (bound_of d g n) (2 ^ 127)) (coefficients_are value u f (by_power fs) parts.1)) s
 
 pub degree_is : {E : Type 0} (value : E → ℤ) (u n : ℕ) (d f : List (Monomial × E)) (fs : List (List (Monomial × E))) (counted : ℕ) → AreParts u f fs → n ≡ top u f → counted ≡ min (degree_by d (by_power fs) (length fs)) 4294967295 → counted ≡ min (degree_by (terms_of value d) (coefficients u (terms_of value f)) (suc n)) 4294967295
 degree_is value u n d f fs counted parts e s =
     let places : length fs ≡ suc n = parts.0 ∙ ap suc (sym e) in
     s
     ∙ ap (λ x. min x 4294967295) (sym (degree_values value d (by_power fs) (length fs)))
-    ∙ (λ i. min (degree_by (terms_of value d) (coefficients_are value u f fs parts i) (places i)) 4294967295)
+    ∙ (λ i. min (degree_by (terms_of value d) (coefficients_are value u f (by_power fs) parts.1 i) (places i)) 4294967295)
 
 pub terms_is : {E : Type 0} (value : E → ℤ) (u n : ℕ) (d f : List (Monomial × E)) (fs : List (List (Monomial × E))) (counted : ℕ) → AreParts u f fs → n ≡ top u f → counted ≡ min (terms_by d (by_power fs) (length fs)) 4294967295 → counted ≡ min (terms_by (terms_of value d) (coefficients u (terms_of value f)) (suc n)) 4294967295
 terms_is value u n d f fs counted parts e s =
     let places : length fs ≡ suc n = parts.0 ∙ ap suc (sym e) in
     s
     ∙ ap (λ x. min x 4294967295) (sym (terms_values value d (by_power fs) (length fs)))
-    ∙ (λ i. min (terms_by (terms_of value d) (coefficients_are value u f fs parts i) (places i)) 4294967295)
+    ∙ (λ i. min (terms_by (terms_of value d) (coefficients_are value u f (by_power fs) parts.1 i) (places i)) 4294967295)
 
 pub greatest_is : {E : Type 0} (value : E → ℤ) (u n : ℕ) (f : List (Monomial × E)) → n ≡ top u f → top u (terms_of value f) ≡ n
 greatest_is value u n f e = top_values value u f ∙ sym e
@@ -82,6 +82,11 @@ goes_further m x f spent n total deepest counted same further t p e w c l d h =
 
 -- ---- what is made
 
+-- the parts, of which the first was taken out
+pub parts_joined : {E : Type 0} (u : ℕ) (f first : List (Monomial × E)) (old new : List (List (Monomial × E))) → AreParts u f old → first ≡ by_power old 0 → ((k : ℕ) → by_power new (suc k) ≡ by_power old (suc k)) → (k : ℕ) → joined_by first new k ≡ part u k f
+parts_joined u f first old new parts e h zero = e ∙ parts.1 0
+parts_joined u f first old new parts e h (suc k) = h k ∙ parts.1 (suc k)
+
 pub substituted_facts : (m : Option ℕ) (x : Definition) (f : Polynomial) (spent n total deepest : ℕ) → IsPolynomial (reduced_by m) x.2 → IsPolynomial (reduced_by m) f → degree_of f ≤ 1024 → IsCovered m (norm_of f) spent → top x.1 f ≡ n → 0 < n → total ≡ min (spent + bound_of x.2 (coefficients x.1 f) n) (2 ^ 127) → is_wide m total ≡ false → deepest ≡ min (degree_by x.2 (coefficients x.1 f) (suc n)) 4294967295 → deepest ≤ 1024 → IsSubstituted m x f spent n
 substituted_facts m x f spent n total deepest over form degree covered t p e w c l = record {
   definition = over;
@@ -94,12 +99,12 @@ substituted_facts m x f spent n total deepest over form degree covered t p e w c
   shallow = within_limit (degree_by x.2 (coefficients x.1 f) (suc n)) deepest 1024 c (omega arith) l;
 }
 
-pub rows_read : {E : Type 0} (m : Option ℕ) (value : E → ℤ) (x : Definition) (f : List (Monomial × E)) (fs : List (List (Monomial × E))) (spent n j : ℕ) → AreParts x.1 f fs → IsSubstituted m x (terms_of value f) spent n → j ≤ n → RowFits m x.1 x.2 (values_by value (by_power fs)) j
+pub rows_read : {E : Type 0} (m : Option ℕ) (value : E → ℤ) (x : Definition) (f : List (Monomial × E)) (fs : ℕ → List (Monomial × E)) (spent n j : ℕ) → ((k : ℕ) → fs k ≡ part x.1 k f) → IsSubstituted m x (terms_of value f) spent n → j ≤ n → RowFits m x.1 x.2 (values_by value fs) j
 rows_read m value x f fs spent n j parts a l =
     let P : (ℕ → Polynomial) → Type 0 = λ g. RowFits m x.1 x.2 g j in
     subst P (sym (coefficients_are value x.1 f fs parts)) (rows_fit m x (terms_of value f) spent n j a l)
 
-pub made_is : {E : Type 0} (m : Option ℕ) → IsReduction (reduced_by m) → (value : E → ℤ) (x : Definition) (f : List (Monomial × E)) (fs : List (List (Monomial × E))) (spent n total : ℕ) (g c : Polynomial) → AreParts x.1 f fs → IsSubstituted m x (terms_of value f) spent n → total ≡ min (spent + bound_of x.2 (coefficients x.1 (terms_of value f)) n) (2 ^ 127) → g ≡ substituted (reduced_by m) x.2 (values_by value (by_power fs)) (suc n) → c ≡ cofactor_by (reduced_by m) x.1 x.2 (values_by value (by_power fs)) (suc n) → IsMade m x (terms_of value f) spent g c total
+pub made_is : {E : Type 0} (m : Option ℕ) → IsReduction (reduced_by m) → (value : E → ℤ) (x : Definition) (f : List (Monomial × E)) (fs : ℕ → List (Monomial × E)) (spent n total : ℕ) (g c : Polynomial) → ((k : ℕ) → fs k ≡ part x.1 k f) → IsSubstituted m x (terms_of value f) spent n → total ≡ min (spent + bound_of x.2 (coefficients x.1 (terms_of value f)) n) (2 ^ 127) → g ≡ substituted (reduced_by m) x.2 (values_by value fs) (suc n) → c ≡ cofactor_by (reduced_by m) x.1 x.2 (values_by value fs) (suc n) → IsMade m x (terms_of value f) spent g c total
 made_is m ring value x f fs spent n total g c parts a e h i =
     let r = reduced_by m in let p = terms_of value f in
     let same = coefficients_are value x.1 f fs parts in

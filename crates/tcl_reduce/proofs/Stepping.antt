@@ -1,8 +1,8 @@
 -- One definition: which of the cases it is, and what the code's counts say of them.
 use Rattle.std.proofs.Common.{◌≡◌, ℕ, zero, suc, min, ◌+◌, ◌^◌, ◌<◌, ◌≤◌, refl, sym, ◌∙◌, ap, arith, Bool, true, false, leb, List, ◌∷◌, Option, Some, None}
 use Rattle.std.proofs.lemmas.Bool.Decides.{nat_tests}
-use Rattle.tcl_lang.specs.declared.outcome.At.TheVariants.{Line}
-use Rattle.tcl_lang.specs.declared.outcome.What.TheVariants.{Degree, Terms}
+use Rattle.tcl_port.specs.declared.limit.At.TheVariants.{Line}
+use Rattle.tcl_port.specs.declared.limit.What.TheVariants.{Degree, Terms}
 use Rattle.tcl_ring.specs.Reduction.{reduced_by, is_wide}
 use Rattle.tcl_poly.specs.Polynomial.{Polynomial, IsPolynomial, norm_of, degree_of}
 use Rattle.tcl_poly.proofs.Norms.{wide_saturated}
@@ -10,7 +10,7 @@ use Rattle.tcl_poly.proofs.Degrees.{within_degree}
 use Rattle.tcl_reduce.specs.Parts.{top, coefficients}
 use Rattle.tcl_reduce.specs.Substitution.{substituted, bound_of, degree_by, terms_by}
 use Rattle.tcl_reduce.specs.Reduction.{Definition, definition_at, Reduced, first_fault, reduced_at, rest_at, cofactor_at, reduced_from}
-use Rattle.tcl_reduce.specs.Reduction.Reduced.{TooWide, TooLarge}
+use Rattle.tcl_reduce.specs.Reduction.Reduced.{Done, TooWide, TooLarge}
 use Rattle.tcl_reduce.specs.Fits.{RowFits, StepFits}
 use Rattle.tcl_reduce.specs.Step.{IsCovered}
 use Rattle.tcl_reduce.proofs.PartLemmas.{part_is}
@@ -108,6 +108,9 @@ made_covered m x f spent (suc k) total a e =
 same_total : (spent bound end : ℕ) → min (spent + bound) end ≡ min (min spent end + bound) end
 same_total spent bound end = omega arith
 
+min_twice : (n end : ℕ) → min n end ≡ min (min n end) end
+min_twice n end = omega arith
+
 same_wide : (m : Option ℕ) (spent bound : ℕ) → is_wide m (spent + bound) ≡ is_wide m (min spent (2 ^ 127) + bound)
 same_wide m spent bound =
     sym (wide_saturated m (spent + bound))
@@ -121,7 +124,7 @@ at_saturates m x f spent (suc k) same same' further further' e h =
     λ i. first_fault (same_wide m spent (bound_of x.2 fs (suc k)) i) (leb 1025 degree) (leb 65537 terms) x.0 degree terms (h i)
 
 pub reduction_saturates : (m : Option ℕ) (defs : List Definition) (n : ℕ) (f : Polynomial) (spent : ℕ) (cs : List (ℕ × Polynomial)) → reduced_from m defs n f spent cs ≡ reduced_from m defs n f (min spent (2 ^ 127)) cs
-reduction_saturates m defs zero f spent cs = refl
+reduction_saturates m defs zero f spent cs = ap (Done f cs) (min_twice spent (2 ^ 127))
 reduction_saturates m defs (suc k) f spent cs =
     let x = definition_at defs k in
     let b = bound_of x.2 (coefficients x.1 f) (top x.1 f) in

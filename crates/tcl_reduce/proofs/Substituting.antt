@@ -2,13 +2,13 @@
 use Rattle.std.proofs.Common.{◌≡◌, ℕ, zero, suc, ◌<◌, ◌==◌, Bool, true, false, eqb-true, refl, sym, ◌∙◌, ap, arith, ℤ, pos}
 use Rattle.tcl_ring.specs.Reduction.{IsReduction}
 use Rattle.tcl_poly.specs.Monomial.{exponent, times}
-use Rattle.tcl_poly.specs.Polynomial.{Polynomial, IsPolynomial, sum_of, product_of, weigh, number_of, power_of}
+use Rattle.tcl_poly.specs.Polynomial.{Polynomial, IsPolynomial, sum_of, product_of, weigh, number_of, power_of, raised_by}
 use Rattle.tcl_poly.proofs.MonomialLaws.{times_exponent, times_monomial, same_monomial}
 use Rattle.tcl_poly.proofs.Weights.{weigh_product}
 use Rattle.tcl_poly.proofs.Canonical.{sum_is, product_is, number_is, power_is, same_alike}
 use Rattle.tcl_poly.proofs.RingLaws.{sum_comm, sum_assoc, sum_nothing, product_comm, product_sum, product_assoc}
 use Rattle.tcl_reduce.specs.Parts.{part, top, coefficients}
-use Rattle.tcl_reduce.specs.Substitution.{power_by, quotient_by, substituted, cofactor_by}
+use Rattle.tcl_reduce.specs.Substitution.{quotient_by, substituted, cofactor_by}
 use Rattle.tcl_reduce.proofs.PartLemmas.{power_monomial, power_monomial_is, exponent_power, exponent_power_other, part_is}
 use Rattle.tcl_reduce.proofs.Gathering.{weigh_power, gathers}
 use Rattle.tcl_reduce.specs.Laws.{gathered}
@@ -54,9 +54,9 @@ turn r ring a b c =
 
 -- ---- powers and quotients
 
-pub power_by_is : (r : ℤ → ℤ) → IsReduction r → (d : Polynomial) (k : ℕ) → IsPolynomial r d → IsPolynomial r (power_by r d k)
+pub power_by_is : (r : ℤ → ℤ) → IsReduction r → (d : Polynomial) (k : ℕ) → IsPolynomial r d → IsPolynomial r (raised_by r d k)
 power_by_is r ring d zero h = number_is r ring (pos 1)
-power_by_is r ring d (suc k) h = product_is r ring (power_by r d k) d (power_by_is r ring d k h) h
+power_by_is r ring d (suc k) h = product_is r ring (raised_by r d k) d (power_by_is r ring d k h) h
 
 pub quotient_by_is : (r : ℤ → ℤ) → IsReduction r → (u : ℕ) (d : Polynomial) (k : ℕ) → IsPolynomial r d → IsPolynomial r (quotient_by r u d k)
 quotient_by_is r ring u d zero h = tt
@@ -66,8 +66,8 @@ quotient_by_is r ring u d (suc k) h =
 pub substituted_is : (r : ℤ → ℤ) → IsReduction r → (u : ℕ) (d f : Polynomial) (k : ℕ) → IsPolynomial r d → IsPolynomial r f → IsPolynomial r (substituted r d (coefficients u f) k)
 substituted_is r ring u d f zero h i = tt
 substituted_is r ring u d f (suc k) h i =
-    sum_is r ring (substituted r d (coefficients u f) k) (product_of r (part u k f) (power_by r d k)) (substituted_is r ring u d f k h i)
-    (product_is r ring (part u k f) (power_by r d k) (part_is r u k f i) (power_by_is r ring d k h))
+    sum_is r ring (substituted r d (coefficients u f) k) (product_of r (part u k f) (raised_by r d k)) (substituted_is r ring u d f k h i)
+    (product_is r ring (part u k f) (raised_by r d k) (part_is r u k f i) (power_by_is r ring d k h))
 
 pub cofactor_by_is : (r : ℤ → ℤ) → IsReduction r → (u : ℕ) (d f : Polynomial) (k : ℕ) → IsPolynomial r d → IsPolynomial r f → IsPolynomial r (cofactor_by r u d (coefficients u f) k)
 cofactor_by_is r ring u d f zero h i = tt
@@ -96,11 +96,11 @@ power_step r ring u k =
     ∙ weigh_power r ring (λ m. φ (times a m)) u 1))
 
 -- u^k is d^k plus a multiple of the equation
-pub power_quotient : (r : ℤ → ℤ) → (ring : IsReduction r) → (u : ℕ) (d e : Polynomial) (k : ℕ) → IsPolynomial r d → IsPolynomial r e → power_of r u 1 ≡ sum_of r d e → power_of r u k ≡ sum_of r (power_by r d k) (product_of r (quotient_by r u d k) e)
+pub power_quotient : (r : ℤ → ℤ) → (ring : IsReduction r) → (u : ℕ) (d e : Polynomial) (k : ℕ) → IsPolynomial r d → IsPolynomial r e → power_of r u 1 ≡ sum_of r d e → power_of r u k ≡ sum_of r (raised_by r d k) (product_of r (quotient_by r u d k) e)
 power_quotient r ring u d e zero h i s = sym (sum_nothing r ring (number_of r (pos 1)) (number_is r ring (pos 1)))
 power_quotient r ring u d e (suc k) h i s =
     let x : Canonical r = (power_of r u k, power_is r ring u k) in
-    let p : Canonical r = (power_by r d k, power_by_is r ring d k h) in
+    let p : Canonical r = (raised_by r d k, power_by_is r ring d k h) in
     let q : Canonical r = (quotient_by r u d k, quotient_by_is r ring u d k h) in
     let d' : Canonical r = (d, h) in let e' : Canonical r = (e, i) in
     let pd = by r ring p d' in let qd = by r ring q d' in let qde = by r ring qd e' in let xe = by r ring x e' in
@@ -121,7 +121,7 @@ step : (r : ℤ → ℤ) → (ring : IsReduction r) → (u : ℕ) (d e f : Polyn
 step r ring u d e f zero h i j s = refl
 step r ring u d e f (suc k) h i j s =
     let a : Canonical r = (part u k f, part_is r u k f j) in
-    let p : Canonical r = (power_by r d k, power_by_is r ring d k h) in
+    let p : Canonical r = (raised_by r d k, power_by_is r ring d k h) in
     let q : Canonical r = (quotient_by r u d k, quotient_by_is r ring u d k h) in
     let e' : Canonical r = (e, i) in
     let g : Canonical r = (substituted r d (coefficients u f) k, substituted_is r ring u d f k h j) in

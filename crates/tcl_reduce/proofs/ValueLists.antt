@@ -3,7 +3,7 @@ use Rattle.std.proofs.Common.{◌≡◌, ℕ, zero, suc, max, ◌+◌, ◌*◌, 
 use Rattle.tcl_poly.specs.Monomial.{Monomial, exponent}
 use Rattle.tcl_poly.specs.Polynomial.{terms_of, degree_of}
 use Rattle.tcl_poly.proofs.TermLists.{degree_of_values}
-use Rattle.tcl_reduce.specs.Parts.{without, part, top, coefficients, by_power, AreParts}
+use Rattle.tcl_reduce.specs.Parts.{without, part, top, coefficients}
 use Rattle.tcl_reduce.specs.Substitution.{if_any, degree_by, terms_by}
 use Rattle.tcl_reduce.specs.Fits.{values_by}
 
@@ -27,9 +27,9 @@ any_values : {E : Type 0} (value : E → ℤ) (p : List (Monomial × E)) (n : �
 any_values value [] n = refl
 any_values value (t ∷ p) n = refl
 
--- the coefficients' values, from the list of the parts
-pub coefficients_are : {E : Type 0} (value : E → ℤ) (u : ℕ) (f : List (Monomial × E)) (fs : List (List (Monomial × E))) → AreParts u f fs → values_by value (by_power fs) ≡ coefficients u (terms_of value f)
-coefficients_are value u f fs h = λ i k. (ap (terms_of value) (h.1 k) ∙ part_values value u k f) i
+-- the coefficients' values, from the parts
+pub coefficients_are : {E : Type 0} (value : E → ℤ) (u : ℕ) (f : List (Monomial × E)) (fs : ℕ → List (Monomial × E)) → ((k : ℕ) → fs k ≡ part u k f) → values_by value fs ≡ coefficients u (terms_of value f)
+coefficients_are value u f fs h = λ i k. (ap (terms_of value) (h k) ∙ part_values value u k f) i
 
 pub degree_values : {E : Type 0} (value : E → ℤ) (d : List (Monomial × E)) (fs : ℕ → List (Monomial × E)) (n : ℕ) → degree_by (terms_of value d) (values_by value fs) n ≡ degree_by d fs n
 degree_values value d fs zero = refl

@@ -1,12 +1,14 @@
--- Sums of lists of cofactors, by rising numbers of their equations, none of them 0.
-use Rattle.std.specs.Prelude.{ℕ, ◌+◌, ◌||◌, Bool, false, nat_le, List, [], ◌∷◌, map, ℤ, Option}
+-- Sums and multiples of lists of cofactors, by rising numbers of their equations. A cofactor that becomes 0 is left out: modulo
+-- a composite number a product can be 0 where no factor is.
+use Rattle.std.specs.Prelude.{ℕ, ◌+◌, ◌||◌, Bool, false, nat_le, List, [], ◌∷◌, ℤ, Option}
 use Rattle.std.specs.Ordering.{nat_cmp}
 use Rattle.std.specs.declared.cmp.Ordering.{Ordering}
 use Rattle.std.specs.declared.cmp.Ordering.TheVariants.{Less, Equal, Greater}
 use Rattle.tcl_ring.specs.Reduction.{is_wide}
 use Rattle.tcl_poly.specs.Polynomial.{Term, Polynomial, sum_of, scaled, degree_of}
-use Rattle.tcl_cofactor.specs.Combination.{equation_at, weight_of}
+use Rattle.tcl_poly.specs.Combination.{equation_at, weight_of}
 
+-- the cofactor in front, left out where it is 0
 abbrev pub front_cofactor : ℕ → Polynomial → List (ℕ × Polynomial) → List (ℕ × Polynomial)
 front_cofactor k [] cs = cs
 front_cofactor k (t ∷ p) cs = (k, t ∷ p) ∷ cs
@@ -21,12 +23,15 @@ abbrev pub put_cofactor : (ℤ → ℤ) → ℕ × Polynomial → List (ℕ × P
 put_cofactor r c [] = front_cofactor c.0 c.1 []
 put_cofactor r c (d ∷ cs) = put_cofactor_at r (nat_cmp c.0 d.0) c d cs (put_cofactor r c cs)
 
+-- the sum of two lists
 abbrev pub sum_cofactors : (ℤ → ℤ) → List (ℕ × Polynomial) → List (ℕ × Polynomial) → List (ℕ × Polynomial)
 sum_cofactors r [] ds = ds
 sum_cofactors r (c ∷ cs) ds = put_cofactor r c (sum_cofactors r cs ds)
 
+-- each cofactor times a term
 abbrev pub scaled_cofactors : (ℤ → ℤ) → Term → List (ℕ × Polynomial) → List (ℕ × Polynomial)
-scaled_cofactors r t cs = map (λ c. (c.0, scaled r t c.1)) cs
+scaled_cofactors r t [] = []
+scaled_cofactors r t (c ∷ cs) = front_cofactor c.0 (scaled r t c.1) (scaled_cofactors r t cs)
 
 -- a cofactor and its equation have degrees that add to more than 1,024
 abbrev pub is_deep : List Polynomial → List (ℕ × Polynomial) → Bool

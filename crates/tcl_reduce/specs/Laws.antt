@@ -1,9 +1,9 @@
 -- Laws of the definitions of plain reduction.
 use Rattle.std.specs.Prelude.{◌≡◌, ℕ, zero, suc, ◌<◌, ◌≤◌, List, [], ℤ, Option}
 use Rattle.tcl_ring.specs.Reduction.{reduced_by, IsModulus}
-use Rattle.tcl_poly.specs.Polynomial.{Polynomial, IsPolynomial, degree_of, sum_of, product_of, power_of}
+use Rattle.tcl_poly.specs.Polynomial.{Polynomial, IsPolynomial, degree_of, sum_of, product_of, power_of, raised_by}
 use Rattle.tcl_reduce.specs.Parts.{part, top}
-use Rattle.tcl_reduce.specs.Substitution.{power_by, quotient_by}
+use Rattle.tcl_reduce.specs.Substitution.{quotient_by}
 use Rattle.tcl_reduce.specs.Reduction.{Definition, Reduced, equation_of, reduced_of}
 use Rattle.tcl_reduce.specs.Remainder.{AreDefinitions, BeginsWith, IsRemainder}
 
@@ -12,10 +12,10 @@ use Rattle.tcl_reduce.specs.Remainder.{AreDefinitions, BeginsWith, IsRemainder}
 -- integers the sum of the products of the norms is below 2^127
 abbrev pub ReductionsKeep : Type 0
 ReductionsKeep =
-    (m : Option ℕ) (defs : List Definition) (f rest : Polynomial) (cofactors : List (ℕ × Polynomial)) (equations : List Polynomial) →
+    (m : Option ℕ) (defs : List Definition) (f rest : Polynomial) (cofactors : List (ℕ × Polynomial)) (spent : ℕ) (equations : List Polynomial) →
     IsModulus m → AreDefinitions (reduced_by m) defs → IsPolynomial (reduced_by m) f → degree_of f ≤ 1024 →
     BeginsWith m (λ n. n) defs equations →
-    reduced_of m defs f ≡ Reduced.Done rest cofactors →
+    reduced_of m defs f ≡ Reduced.Done rest cofactors spent →
     IsRemainder m (λ n. n) equations f rest cofactors
 
 -- the sum of the coefficients of the powers of u below n, times these powers
@@ -34,4 +34,4 @@ abbrev pub QuotientsDivide : Type 0
 QuotientsDivide =
     (m : Option ℕ) (x : Definition) (k : ℕ) → IsModulus m → IsPolynomial (reduced_by m) x.2 →
     power_of (reduced_by m) x.1 k
-    ≡ sum_of (reduced_by m) (power_by (reduced_by m) x.2 k) (product_of (reduced_by m) (quotient_by (reduced_by m) x.1 x.2 k) (equation_of (reduced_by m) x))
+    ≡ sum_of (reduced_by m) (raised_by (reduced_by m) x.2 k) (product_of (reduced_by m) (quotient_by (reduced_by m) x.1 x.2 k) (equation_of (reduced_by m) x))

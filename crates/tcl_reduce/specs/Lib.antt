@@ -8,6 +8,7 @@ pub mod Step
 pub mod Remainder
 pub mod Laws
 pub mod Answer
+pub mod Span
 pub mod Inverse
 pub mod CofactorSum
 pub mod Row

@@ -1,6 +1,6 @@
 -- The membership search for a claim of which plain reduction leaves something: the rows, then the products one by one,
 -- and the claim reduced by them.
-use Rattle.std.specs.Prelude.{ℕ, suc, ◌==◌, Bool, true, false, if◌then◌else◌, List, [], ◌∷◌, length, ℤ, neg_ℤ, unsigned_abs, Option, None, Some}
+use Rattle.std.specs.Prelude.{ℕ, zero, suc, ◌==◌, Bool, true, false, if◌then◌else◌, List, [], ◌∷◌, length, ℤ, neg_ℤ, unsigned_abs, Option, None, Some}
 use Rattle.tcl_ring.specs.Reduction.{reduced_by}
 use Rattle.tcl_poly.specs.Polynomial.{Polynomial, sum_of, scaled, norm_of, coefficient}
 use Rattle.tcl_reduce.specs.Reduction.{Definition}
@@ -56,6 +56,12 @@ stage_by m equations norm place x s =
     if length rows.kept == length s.rows.kept then record { rows = rows; target = s.target } else
     stage_of m equations norm place rows s.target
 
+-- the stage after the first n products, all of them where there are fewer
+abbrev pub stage_after : Option ℕ → List Polynomial → ℕ → ℕ → ℕ → List Multiple → Stage → Stage
+stage_after m equations norm place zero xs s = s
+stage_after m equations norm place (suc n) [] s = s
+stage_after m equations norm place (suc n) (x ∷ xs) s = stage_after m equations norm place n xs (stage_by m equations norm place x s)
+
 -- how the search ends: with cofactors, spent, or with what plain reduction left and the first note
 pub data Found : Type 0 where
   Cofactors : List (ℕ × Polynomial) → Found
@@ -78,10 +84,14 @@ found_by m equations norm place budget (x ∷ xs) tried s =
     if is_nothing after.target.poly then Cofactors after.target.cofactors else
     (if suc tried == budget then Spent budget else found_by m equations norm place budget xs (suc tried) after)
 
+-- the stage before the first product
+abbrev pub first_stage : Option ℕ → List Definition → List Polynomial → List ℕ → Polynomial → ℕ → Polynomial → List (ℕ × Polynomial) → Stage
+first_stage m defs equations places claim place rest cofactors =
+    stage_of m equations (norm_of claim) place (rows_of m defs equations places) (record { poly = rest; cofactors = cofactors; noted = false })
+
 -- the search for a claim of which plain reduction leaves that rest with these cofactors
 abbrev pub found_of : Option ℕ → List Definition → List Polynomial → List ℕ → Polynomial → ℕ → ℕ → Polynomial → List (ℕ × Polynomial) → Found
 found_of m defs equations places claim place budget rest cofactors =
-    let rows = rows_of m defs equations places in
-    let start = stage_of m equations (norm_of claim) place rows (record { poly = rest; cofactors = cofactors; noted = false }) in
+    let start = first_stage m defs equations places claim place rest cofactors in
     if is_nothing start.target.poly then Cofactors start.target.cofactors else
-    found_by m equations (norm_of claim) place budget (multiples_of rows.kept rest) 0 start
+    found_by m equations (norm_of claim) place budget (multiples_of (rows_of m defs equations places).kept rest) 0 start

@@ -1,5 +1,5 @@
 -- A polynomial by the powers of one unknown: f is the sum of its parts times these powers.
-use Rattle.std.specs.Prelude.{◌≡◌, ℕ, suc, max, ◌==◌, List, [], ◌∷◌, length, slice_index_or, if◌then◌else◌}
+use Rattle.std.specs.Prelude.{◌≡◌, ℕ, zero, suc, max, ◌==◌, List, [], ◌∷◌, length, slice_index_or, if◌then◌else◌}
 use Rattle.tcl_poly.specs.Monomial.{Monomial, exponent}
 
 -- the monomial without the unknown u
@@ -24,6 +24,11 @@ top u (t ∷ p) = max (exponent t.0 u) (top u p)
 -- the coefficients from a list of them
 abbrev pub by_power : {E : Type 0} → List (List (Monomial × E)) → ℕ → List (Monomial × E)
 by_power fs k = slice_index_or fs k []
+
+-- the same where the first is given apart
+abbrev pub joined_by : {E : Type 0} → List (Monomial × E) → List (List (Monomial × E)) → ℕ → List (Monomial × E)
+joined_by first fs zero = first
+joined_by first fs (suc k) = by_power fs (suc k)
 
 -- the list holds the coefficients of f up to the greatest power of u
 abbrev pub AreParts : {E : Type 0} → ℕ → List (Monomial × E) → List (List (Monomial × E)) → Type 0

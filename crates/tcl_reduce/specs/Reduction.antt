@@ -1,15 +1,15 @@
 -- Plain reduction: the definitions are substituted from the last place to the first.
-use Rattle.std.specs.Prelude.{ℕ, zero, suc, min, ◌+◌, Bool, true, false, nat_le, List, [], ◌∷◌, length, slice_index_or, ℤ, negsuc, Option}
-use Rattle.tcl_lang.specs.declared.outcome.At.{At}
-use Rattle.tcl_lang.specs.declared.outcome.At.TheVariants.{Line}
-use Rattle.tcl_lang.specs.declared.outcome.What.{What}
-use Rattle.tcl_lang.specs.declared.outcome.What.TheVariants.{Degree, Terms}
+use Rattle.std.specs.Prelude.{ℕ, zero, suc, min, ◌+◌, ◌^◌, Bool, true, false, nat_le, List, [], ◌∷◌, length, slice_index_or, ℤ, negsuc, Option}
+use Rattle.tcl_port.specs.declared.limit.At.{At}
+use Rattle.tcl_port.specs.declared.limit.At.TheVariants.{Line}
+use Rattle.tcl_port.specs.declared.limit.What.{What}
+use Rattle.tcl_port.specs.declared.limit.What.TheVariants.{Degree, Terms}
 use Rattle.tcl_ring.specs.Reduction.{reduced_by, is_wide}
 use Rattle.tcl_poly.specs.Polynomial.{Polynomial, sum_of, scaled, power_of, norm_of}
 use Rattle.tcl_reduce.specs.Parts.{top, coefficients}
 use Rattle.tcl_reduce.specs.Substitution.{substituted, cofactor_by, bound_of, degree_by, terms_by}
 
--- a definition: its place, its variable, and the polynomial that the variable equals
+-- a definition: its place, the key of its variable, and the polynomial that the variable equals
 abbrev pub Definition : Type 0
 Definition = ℕ × ℕ × Polynomial
 
@@ -21,9 +21,10 @@ definition_at defs k = slice_index_or defs k (0, 0, [])
 abbrev pub equation_of : (ℤ → ℤ) → Definition → Polynomial
 equation_of r x = sum_of r (power_of r x.1 1) (scaled r ([], negsuc 0) x.2)
 
--- how a reduction ends: with what is left and the cofactors by the numbers of their definitions, wide at a line, or large
+-- how a reduction ends: with what is left, the cofactors by the numbers of their definitions, and the bound that was spent,
+-- which stays at 2^127; or wide at a line, or large
 pub data Reduced : Type 0 where
-  Done : Polynomial → List (ℕ × Polynomial) → Reduced
+  Done : Polynomial → List (ℕ × Polynomial) → ℕ → Reduced
   TooWide : At → Reduced
   TooLarge : What → ℕ → Reduced
 
@@ -52,7 +53,7 @@ cofactor_at m x f = cofactor_by (reduced_by m) x.1 x.2 (coefficients x.1 f) (suc
 
 -- the reduction by the first n definitions, from the last of them on, after that bound was spent and with the cofactors of later ones
 abbrev pub reduced_from : Option ℕ → List Definition → ℕ → Polynomial → ℕ → List (ℕ × Polynomial) → Reduced
-reduced_from m defs zero f spent cofactors = Done f cofactors
+reduced_from m defs zero f spent cofactors = Done f cofactors (min spent (2 ^ 127))
 reduced_from m defs (suc k) f spent cofactors =
     let x = definition_at defs k in
     reduced_at m x f spent (top x.1 f)

@@ -2,7 +2,7 @@
 use Rattle.std.specs.Prelude.{◌≡◌, ℕ, suc, ◌<◌, ◌≤◌, false, List, [], ◌∷◌, length, map, ℤ, Option}
 use Rattle.tcl_ring.specs.Reduction.{reduced_by, is_wide}
 use Rattle.tcl_poly.specs.Polynomial.{Polynomial, IsPolynomial, terms_of, sum_of}
-use Rattle.tcl_cofactor.specs.Combination.{Terms, equation_at, combination_of, weight_of, AreCofactors}
+use Rattle.tcl_poly.specs.Combination.{Terms, equation_at, combination_of, weight_of, AreCofactors}
 use Rattle.tcl_reduce.specs.Reduction.{Definition, definition_at, equation_of}
 
 -- the cofactors with their coefficients' values

@@ -7,7 +7,7 @@ use Rattle.std.specs.declared.cmp.Ordering.TheVariants.{Less, Equal, Greater}
 use Rattle.tcl_ring.specs.Reduction.{reduced_by}
 use Rattle.tcl_poly.specs.Monomial.{Monomial, order}
 use Rattle.tcl_poly.specs.Polynomial.{Polynomial, sum_of, scaled, number_of, coefficient}
-use Rattle.tcl_cofactor.specs.Combination.{equation_at}
+use Rattle.tcl_poly.specs.Combination.{equation_at}
 use Rattle.tcl_reduce.specs.Reduction.{Definition, Reduced, reduced_of}
 use Rattle.tcl_reduce.specs.Reduction.Reduced.{Done, TooWide, TooLarge}
 use Rattle.tcl_reduce.specs.Inverse.{inverse_of}
@@ -92,12 +92,34 @@ add_reduced m place (Some a) rows = keep m a a.poly rows
 abbrev pub add_row : Option ℕ → List Polynomial → Row → Rows → Rows
 add_row m equations a rows = add_reduced m a.place (row_by m equations (by_leading rows.kept) a) rows
 
--- an equation's row: what plain reduction leaves of it
+-- the row of the equation of that number: what plain reduction leaves of it, which is the equation less the cofactors' products
+abbrev pub row_of : (ℤ → ℤ) → ℕ → ℕ → Polynomial → List (ℕ × Polynomial) → Row
+row_of r number place rest cs = record {
+  poly = rest;
+  cofactors = put_cofactor r (number, number_of r (pos 1)) (scaled_cofactors r ([], negsuc 0) cs);
+  place = place;
+}
+
+-- the row where plain reduction has an end
+abbrev pub plain_row : Option ℕ → ℕ → ℕ → Reduced → List Row
+plain_row m number place (Done rest cs spent) = row_of (reduced_by m) number place rest cs ∷ []
+plain_row m number place (TooWide at) = []
+plain_row m number place (TooLarge what n) = []
+
+-- the rows of the first n equations after the definitions, as plain reduction leaves them
+abbrev pub plain_rows_to : Option ℕ → List Definition → List Polynomial → List ℕ → ℕ → List Row
+plain_rows_to m defs equations places zero = []
+plain_rows_to m defs equations places (suc k) =
+    let number = length defs + k in
+    plain_rows_to m defs equations places k ++ plain_row m number (slice_index_or places number 0) (reduced_of m defs (equation_at equations number))
+
+-- the rows that the search begins with, before any is reduced by another
+abbrev pub plain_rows : Option ℕ → List Definition → List Polynomial → List ℕ → List Row
+plain_rows m defs equations places = plain_rows_to m defs equations places (length equations - length defs)
+
+-- an equation's row is added, with a note where plain reduction has no end
 abbrev pub add_plain : Option ℕ → List Polynomial → ℕ → ℕ → Reduced → Rows → Rows
-add_plain m equations number place (Done rest cs) rows =
-    let r = reduced_by m in
-    add_row m equations
-    (record { poly = rest; cofactors = put_cofactor r (number, number_of r (pos 1)) (scaled_cofactors r ([], negsuc 0) cs); place = place }) rows
+add_plain m equations number place (Done rest cs spent) rows = add_row m equations (row_of (reduced_by m) number place rest cs) rows
 add_plain m equations number place (TooWide at) rows = with_note (WideAt place) rows
 add_plain m equations number place (TooLarge what n) rows = with_note (WideAt place) rows
 

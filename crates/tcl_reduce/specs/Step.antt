@@ -1,6 +1,6 @@
 -- What the step of one definition says. No public clause cites this module.
 use Rattle.std.specs.Prelude.{◌≡◌, ℕ, min, ◌+◌, ◌^◌, ◌≤◌, ℤ, Option, None, Some}
-use Rattle.tcl_lang.specs.declared.outcome.At.TheVariants.{Line}
+use Rattle.tcl_port.specs.declared.limit.At.TheVariants.{Line}
 use Rattle.tcl_ring.specs.Reduction.{reduced_by}
 use Rattle.tcl_poly.specs.Polynomial.{Polynomial, IsPolynomial, terms_of, norm_of, degree_of}
 use Rattle.tcl_reduce.specs.declared.step.Step.{Step}
@@ -17,7 +17,7 @@ IsCovered (Some m) norm spent = Unit {0}
 
 -- how the reduction goes on
 abbrev pub continued : {R E : Type 0} → ℕ → Reduced → Reduced → Step R E → Reduced
-continued place same further Same = same
+continued place same further (Same f) = same
 continued place same further (Next made spent) = further
 continued place same further Wide = TooWide (Line place)
 continued place same further (Large what n) = TooLarge what n
@@ -32,7 +32,7 @@ pub record IsMade (m : Option ℕ) (x : Definition) (f : Polynomial) (spent : �
   pub covered : IsCovered m (norm_of g) after
 
 abbrev pub IsNext : {R E : Type 0} → Option ℕ → (E → ℤ) → Definition → Polynomial → ℕ → Step R E → Type 0
-IsNext m value x f spent Same = Unit {0}
+IsNext m value x f spent (Same g) = terms_of value g ≡ f
 IsNext m value x f spent (Next made total) = IsMade m x f spent (terms_of value made.rest) (terms_of value made.cofactor) total
 IsNext m value x f spent Wide = Unit {0}
 IsNext m value x f spent (Large what n) = Unit {0}

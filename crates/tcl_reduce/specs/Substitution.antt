@@ -1,13 +1,8 @@
 -- The substitution of u = d in f, the sum of f_k * u^k, with its cofactor, and what it costs. The f_k are given by their
 -- powers; r is the reduction of the ring.
-use Rattle.std.specs.Prelude.{ℕ, zero, suc, max, ◌+◌, ◌*◌, ◌^◌, List, [], ◌∷◌, length, ℤ, pos}
+use Rattle.std.specs.Prelude.{ℕ, zero, suc, max, ◌+◌, ◌*◌, ◌^◌, List, [], ◌∷◌, length, ℤ}
 use Rattle.tcl_poly.specs.Monomial.{Monomial}
-use Rattle.tcl_poly.specs.Polynomial.{Polynomial, sum_of, product_of, number_of, power_of, norm_of, degree_of}
-
--- d to the power k
-abbrev pub power_by : (ℤ → ℤ) → Polynomial → ℕ → Polynomial
-power_by r d zero = number_of r (pos 1)
-power_by r d (suc k) = product_of r (power_by r d k) d
+use Rattle.tcl_poly.specs.Polynomial.{Polynomial, sum_of, product_of, power_of, norm_of, degree_of, raised_by}
 
 -- the sum of u^i * d^(k-1-i) over i below k, by Horner's rule: its product with u - d is u^k - d^k
 abbrev pub quotient_by : (ℤ → ℤ) → ℕ → Polynomial → ℕ → Polynomial
@@ -17,7 +12,7 @@ quotient_by r u d (suc k) = sum_of r (product_of r (quotient_by r u d k) d) (pow
 -- the sum of f_k * d^k over k below n
 abbrev pub substituted : (ℤ → ℤ) → Polynomial → (ℕ → Polynomial) → ℕ → Polynomial
 substituted r d fs zero = []
-substituted r d fs (suc k) = sum_of r (substituted r d fs k) (product_of r (fs k) (power_by r d k))
+substituted r d fs (suc k) = sum_of r (substituted r d fs k) (product_of r (fs k) (raised_by r d k))
 
 -- the sum over k below n of f_k times the sum of u^i * d^(k-1-i) over i below k
 abbrev pub cofactor_by : (ℤ → ℤ) → ℕ → Polynomial → (ℕ → Polynomial) → ℕ → Polynomial

@@ -16,6 +16,3 @@ pub use definition::{Definition, Defs};
 pub use equations::Equations;
 pub use laws::{parts_make, quotients_divide, reductions_keep};
 pub use reduction::plain;
-
-#[cfg(test)]
-mod tests;

@@ -3,7 +3,7 @@
 ghost use Rattle.std.specs.Prelude.{◌≡◌, ℤ, ◌<◌, ◌≤◌, ◌^◌, ◌∷◌, [], ◌++◌, List, reverse, OnOk};
 ghost use Rattle.tcl_ring.specs.Reduction as r;
 ghost use Rattle.tcl_poly.specs.Polynomial as p;
-ghost use Rattle.tcl_cofactor.specs.Combination.{Terms};
+ghost use Rattle.tcl_poly.specs.Combination.{Terms};
 ghost use Rattle.tcl_reduce.specs.Answer.{IsPlain, IsShown, definitions_of, numbered};
 ghost use Rattle.tcl_reduce.specs.Reduction as s;
 ghost use Rattle.tcl_reduce.specs.Reduction.Reduced.{Done};
@@ -13,15 +13,15 @@ use crate::step::{Step, reduce_by};
 use crate::substitution::Substituted;
 use crate::{Defs, Plain};
 use std::alloc::{AllocError, Global};
-use tcl_lang::At;
 use tcl_list::Listing;
 use tcl_poly::{Cofactor, Poly, is_zero, norm_of_terms, terms};
+use tcl_port::At;
 use tcl_ring::Ring;
 
 /// Substitutes the definitions in `f`, from the last place to the first.
 ///
 /// The cofactors have the numbers of the definitions, from 0. What is left and the cofactors make `f` again over every
-/// list of equations that begins with those of the definitions, and the exact comparison of tcl_cofactor can show it.
+/// list of equations that begins with those of the definitions, and the exact comparison can show it.
 pub fn plain<R: Ring>(alloc: Global, ring: &R, defs: &Defs<R>, f: &Poly<R>) -> Plain<R>
     requires definitions { AreDefinitions (r.reduced_by (R.modulus_of ring.now)) (definitions_of (R.amount ring.now) defs.now) }
     requires polynomial { p.IsOver (R.modulus_of ring.now) (R.amount ring.now) f.now }
@@ -40,8 +40,8 @@ pub fn plain<R: Ring>(alloc: Global, ring: &R, defs: &Defs<R>, f: &Poly<R>) -> P
     while k > 0 {
         k -= 1;
         let definition = defs.at(k);
-        match reduce_by(alloc, ring, definition, &rest, spent) {
-            Ok(Step::Same) => {}
+        match reduce_by(alloc, ring, definition, rest, spent) {
+            Ok(Step::Same(same)) => rest = same,
             Ok(Step::Next(made, total)) => {
                 let Substituted {
                     rest: next,
@@ -58,7 +58,7 @@ pub fn plain<R: Ring>(alloc: Global, ring: &R, defs: &Defs<R>, f: &Poly<R>) -> P
             Err(_) => return Plain::Memory,
         }
     }
-    finish(rest, cofactors)
+    finish(rest, cofactors, spent)
 }
 
 fn push<R: Ring>(
@@ -77,14 +77,14 @@ fn push<R: Ring>(
 }
 
 // The answer from what is left and the cofactors from the last definition to the first.
-fn finish<R: Ring>(rest: Poly<R>, cofactors: Vec<Cofactor<R>>) -> Plain<R>
-    ensures { (value : R.Elem → ℤ) → IsPlain value (Done (p.terms_of value rest) (pairs_of value (reverse (numbered cofactors.items)))) result }
+fn finish<R: Ring>(rest: Poly<R>, cofactors: Vec<Cofactor<R>>, spent: u128) -> Plain<R>
+    ensures { (value : R.Elem → ℤ) → IsPlain value (Done (p.terms_of value rest) (pairs_of value (reverse (numbered cofactors.items))) spent) result }
 {
     let mut cofactors = cofactors;
     cofactors.reverse();
     let cofactors = Listing::from_vec(cofactors);
     if is_zero(&rest) {
-        return Plain::Zero(cofactors);
+        return Plain::Zero(cofactors, spent);
     }
-    Plain::Rest(rest, cofactors)
+    Plain::Rest(rest, cofactors, spent)
 }

@@ -31,6 +31,15 @@ pub trait Ring {
     fn mul(&self, a: &Self::Elem, b: &Self::Elem) -> Result<Self::Elem, Wide>
         ensures { IsResult (modulus_of self.now) (amount self.now) (amount self.now a.now *ℤ amount self.now b.now) result };
 
+    /// The element that stands for `a + b * c`. The sum alone decides whether it is too great: the product may be greater.
+    fn add_product(
+        &self,
+        a: &Self::Elem,
+        b: &Self::Elem,
+        c: &Self::Elem,
+    ) -> Result<Self::Elem, Wide>
+        ensures { IsResult (modulus_of self.now) (amount self.now) (amount self.now a.now +ℤ amount self.now b.now *ℤ amount self.now c.now) result };
+
     /// The element whose product with `a` is 1, where there is one.
     fn inverse(&self, a: &Self::Elem) -> Option<Self::Elem>
         ensures { IsInverse (modulus_of self.now) (amount self.now) (amount self.now a.now) result };

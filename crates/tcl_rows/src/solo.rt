@@ -65,7 +65,7 @@ fn expect(
 #[test]
 fn reports(rt: HostRuntime) -> Result<(), AllocError> {
     let alloc = rt.alloc();
-    let cases = [
+    let cases: &[(&str, u8, &str)] = &[
         (
             "in u8 x\nadd u8 y x 1@u8\nend\n",
             1,
@@ -138,7 +138,7 @@ fn reports(rt: HostRuntime) -> Result<(), AllocError> {
         ),
     ];
     for (text, status, written) in cases {
-        expect(&rt, alloc, &plain(text), status, written)?;
+        expect(&rt, alloc, &plain(text), *status, *written)?;
     }
     Ok(())
 }
@@ -146,7 +146,7 @@ fn reports(rt: HostRuntime) -> Result<(), AllocError> {
 #[test]
 fn texts_outside_the_grammar(rt: HostRuntime) -> Result<(), AllocError> {
     let alloc = rt.alloc();
-    let cases = [
+    let cases: &[(&str, u8, &str)] = &[
         ("", 3, "refused shape line 1\n"),
         ("in u8 x\n", 3, "refused shape line 2\n"),
         ("end\nin u8 x\n", 3, "refused shape line 2\n"),
@@ -199,7 +199,7 @@ fn texts_outside_the_grammar(rt: HostRuntime) -> Result<(), AllocError> {
         ),
     ];
     for (text, status, written) in cases {
-        expect(&rt, alloc, &plain(text), status, written)?;
+        expect(&rt, alloc, &plain(text), *status, *written)?;
     }
     Ok(())
 }
@@ -207,7 +207,7 @@ fn texts_outside_the_grammar(rt: HostRuntime) -> Result<(), AllocError> {
 #[test]
 fn ill_typed_texts(rt: HostRuntime) -> Result<(), AllocError> {
     let alloc = rt.alloc();
-    let cases = [
+    let cases: &[(&str, u8, &str)] = &[
         (
             "in u8 x\nadd u8 y x 256@u8\nadd u8 z y 300@u8\nend\n",
             4,
@@ -255,7 +255,7 @@ fn ill_typed_texts(rt: HostRuntime) -> Result<(), AllocError> {
         ),
     ];
     for (text, status, written) in cases {
-        expect(&rt, alloc, &plain(text), status, written)?;
+        expect(&rt, alloc, &plain(text), *status, *written)?;
     }
     Ok(())
 }
@@ -263,7 +263,7 @@ fn ill_typed_texts(rt: HostRuntime) -> Result<(), AllocError> {
 #[test]
 fn texts_that_the_walk_does_not_know(rt: HostRuntime) -> Result<(), AllocError> {
     let alloc = rt.alloc();
-    let cases = [
+    let cases: &[(&str, u8, &str)] = &[
         ("in u8 x\nin u5 y\nend\n", 10, "refused later line 2\n"),
         ("in u9 x\nend\n", 10, "refused later line 1\n"),
         ("in s8 x\nend\n", 10, "refused later line 1\n"),
@@ -306,7 +306,7 @@ fn texts_that_the_walk_does_not_know(rt: HostRuntime) -> Result<(), AllocError> 
         ),
     ];
     for (text, status, written) in cases {
-        expect(&rt, alloc, &plain(text), status, written)?;
+        expect(&rt, alloc, &plain(text), *status, *written)?;
     }
     Ok(())
 }
@@ -331,11 +331,10 @@ fn repeated(
 #[test]
 fn limits_and_their_edges(rt: HostRuntime) -> Result<(), AllocError> {
     let alloc = rt.alloc();
-    let first = "in u1 x\n";
-    let cases = [
+    let cases: &[(&str, &str, u32, &str, u8, &str)] = &[
         // The walk knows 64 lines.
         (
-            first,
+            "in u1 x\n",
             "assert rng 0@u1 < 1@u1\n",
             64,
             "end\n",
@@ -343,7 +342,7 @@ fn limits_and_their_edges(rt: HostRuntime) -> Result<(), AllocError> {
             "refused later line 65\n",
         ),
         (
-            first,
+            "in u1 x\n",
             "mov u1 x x\n",
             4096,
             "end\n",
@@ -351,7 +350,7 @@ fn limits_and_their_edges(rt: HostRuntime) -> Result<(), AllocError> {
             "refused later line 65\n",
         ),
         (
-            first,
+            "in u1 x\n",
             "mov u1 x x\n",
             4097,
             "end\n",
@@ -375,7 +374,7 @@ fn limits_and_their_edges(rt: HostRuntime) -> Result<(), AllocError> {
             "refused later line 1\n",
         ),
         (
-            first,
+            "in u1 x\n",
             "adds u1 c x 0@u1 0@u1\n",
             4096,
             "end\n",
@@ -383,7 +382,7 @@ fn limits_and_their_edges(rt: HostRuntime) -> Result<(), AllocError> {
             "refused limit variables\n",
         ),
         (
-            first,
+            "in u1 x\n",
             "assert rng true\n",
             4096,
             "end\n",
@@ -391,7 +390,7 @@ fn limits_and_their_edges(rt: HostRuntime) -> Result<(), AllocError> {
             "refused later line 2\n",
         ),
         (
-            first,
+            "in u1 x\n",
             "assert rng true\n",
             4097,
             "end\n",
@@ -465,12 +464,12 @@ fn limits_and_their_edges(rt: HostRuntime) -> Result<(), AllocError> {
         ),
     ];
     for (first, line, count, last, status, written) in cases {
-        let text = repeated(alloc, first, line, count, last)?;
+        let text = repeated(alloc, *first, *line, *count, *last)?;
         let case = Case {
             cut: 65_536,
             ..plain(text.as_str())
         };
-        expect(&rt, alloc, &case, status, written)?;
+        expect(&rt, alloc, &case, *status, *written)?;
     }
     Ok(())
 }

@@ -85,7 +85,7 @@ next_step clauses es old new d n p l r trail all derived in_c unit there made =
     } in
     subst (λ (x : DerivationState). IsNext clauses c before l x) (sym made) all_in
 
-reason_at : (es : List Entry) (p : ℕ) (e : Entry) → slice_get es p ≡ Some e → has e.lit (take p (lits_of es)) ≡ false → reason_of e.lit es ≡ e.reason
+pub reason_at : (es : List Entry) (p : ℕ) (e : Entry) → slice_get es p ≡ Some e → has e.lit (take p (lits_of es)) ≡ false → reason_of e.lit es ≡ e.reason
 reason_at [] p e h f = absurd (none-some e h)
 reason_at (x ∷ es) zero e h f =
     let same = same_Some x e h in
@@ -275,14 +275,9 @@ nothing_left clauses es d derived = none d.clause derived.before where
   none [] f = refl
   none (l ∷ c) f = absurd (true-false false f refl)
 
--- the tests of the walk, as its code makes them
+-- the test of the walk, as its code makes it
 pub told : (d : DerivationState) (l negated : ℕ) (answer b : Bool) → negated ≡ neg l → answer ≡ has negated d.clause → answer ≡ b → has (neg l) d.clause ≡ b
 told d l negated answer b n h e = sym (ap (λ x. has x d.clause) n) ∙ sym h ∙ e
-
-pub told_below : (es : List Entry) (d : DerivationState) (floor l negated : ℕ) (lits : List ℕ) (answer b : Bool) → negated ≡ neg l → lits ≡ d.clause → answer ≡ is_false (take floor (lits_of es)) (without negated lits) → answer ≡ b
-    → is_false (take floor (lits_of es)) (without (neg l) d.clause) ≡ b
-told_below es d floor l negated lits answer b n s h e =
-    sym (ap (λ x. is_false (take floor (lits_of es)) (without x d.clause)) n) ∙ sym (ap (λ x. is_false (take floor (lits_of es)) (without negated x)) s) ∙ sym h ∙ e
 
 -- a literal whose negation is not in the clause
 pub turn_skipped : (clauses : List (List ℕ)) (es : List Entry) (d : DerivationState) (floor p l : ℕ) → slice_get (lits_of es) p ≡ Some l → IsPresent clauses es d floor (p + 1) → has (neg l) d.clause ≡ false → IsPresent clauses es d floor p

@@ -7,7 +7,6 @@ use Rattle.tcl_cnf.specs.Literal.{neg}
 use Rattle.tcl_cnf.specs.Clause.{has}
 use Rattle.tcl_cnf.specs.Propagation.{IsFresh, IsQuiet, IsClosed}
 use Rattle.tcl_cnf.specs.Log.{LogState}
-use Rattle.tcl_cnf.proofs.Bools.{true-false}
 use Rattle.tcl_cnf.proofs.Entries.{get-take, get-last, get-behind}
 use Rattle.tcl_trail.specs.declared.entry.Entry.{Entry}
 use Rattle.tcl_trail.specs.Assignment.{lits_of, up_to}
@@ -17,8 +16,9 @@ use Rattle.tcl_trail.proofs.Entries.{lits-take}
 use Rattle.tcl_sat.specs.Found.{AreFresh}
 use Rattle.tcl_sat.specs.State.{WasQuiet, IsState, IsBegun, AddsOne, GoesOn}
 use Rattle.tcl_sat.specs.Analysis.{IsFloor, DerivationState, IsPoint, IsJump}
-use Rattle.tcl_sat.proofs.Prefixes.{front_more, up_to_front, assumed_level, reach, quiet_back, quiet_grown, quiet_assumed}
+use Rattle.tcl_sat.proofs.Prefixes.{up_to_front, assumed_level, reach, quiet_back, quiet_grown, quiet_assumed}
 use Rattle.tcl_sat.proofs.Explains.{floor_closed, point_fresh}
+use Rattle.tcl_sat.proofs.Floors.{not_before}
 
 -- a quiet clause more
 closed_more : (clauses : List (List ℕ)) (c trues : List ℕ) → IsClosed clauses trues → IsQuiet trues c → IsClosed (clauses ++ c ∷ []) trues
@@ -37,9 +37,6 @@ front_of_up es level k e h =
       ap (λ (x : List Entry). take k (lits_of x)) r.1 ∙ ap (take k) (lits-take n es) ∙ take-take k n (lits_of es) (omega (arith, within, length-take n es)),
       get-take n es k e g,
     )
-
-not_before : (ls : List ℕ) (k floor l : ℕ) → k ≤ floor → has l (take floor ls) ≡ false → has l (take k ls) ≡ false
-not_before ls k floor l le out = elim (cases_Bool (has l (take k ls))) [ inr e ↦ e | inl e ↦ absurd (true-false (has l (take floor ls)) (front_more ls k floor l le e) out) ]
 
 -- before an assumed literal up to the level the learnt clause was quiet
 learnt_quiet : (clauses : List (List ℕ)) (es : List Entry) (d : DerivationState) (floor u level k : ℕ) (e : Entry) → IsFloor es floor → IsPoint clauses es d floor u → IsJump es d.clause u level

@@ -60,7 +60,7 @@ told_none r e = ap is_none e
 step_given : (e : Entry) → is_none e.reason ≡ false → step_of e ≡ 0
 step_given e h = rw h refl
 
-step_assumed : (e : Entry) → is_none e.reason ≡ true → step_of e ≡ 1
+pub step_assumed : (e : Entry) → is_none e.reason ≡ true → step_of e ≡ 1
 step_assumed e h = rw h refl
 
 -- the entries up to a level are a front

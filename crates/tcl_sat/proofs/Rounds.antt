@@ -1,5 +1,6 @@
 -- The rounds of a search: polls, counts, and the evidence for each end.
-use Rattle.std.proofs.Common.{◌≡◌, ℕ, zero, suc, ◌+◌, ◌-◌, ◌*◌, ◌^◌, ◌<◌, ◌≤◌, Bool, true, false, ◌||◌, cond, eqb, List, [], ◌∷◌, ◌++◌, length, take, drop, Some, slice_get, refl, sym, ap, subst, ◌∙◌, arith, ◌⊎◌, inl, inr, length-append}
+use Rattle.std.proofs.Common.{◌≡◌, ℕ, zero, suc, ◌+◌, ◌-◌, ◌*◌, ◌^◌, ◌<◌, ◌≤◌, Bool, true, false, ◌||◌, cond, eqb, List, [], ◌∷◌, ◌++◌, length, take, drop, Some, slice_get, refl, sym, ap, subst, ◌∙◌, arith, ◌⊎◌, inl, inr, length-append, Result, Ok, Err}
+use Rattle.std.specs.Result.{OnErr}
 use Rattle.std.specs.List.{list_any}
 use Rattle.std.proofs.lemmas.Bool.{cases_eq, cases_lt, eq-eqb, ne_eqb, or_right}
 use Rattle.std.proofs.lemmas.List.{take_all, take-append-le}
@@ -10,7 +11,7 @@ use Rattle.tcl_cnf.proofs.Bools.{true-false}
 use Rattle.tcl_cnf.proofs.Freshness.{no_conflict}
 use Rattle.tcl_trail.proofs.Growth.{clause_there}
 use Rattle.tcl_trail.specs.Trail.{TrailState}
-use Rattle.tcl_lang.specs.Polling.{counted, Rose}
+use Rattle.tcl_port.specs.Polling.{counted, Rose}
 use Rattle.tcl_sat.specs.Found.{AreFresh, IsLogOf, IsRefutation, IsSpent, IsBounded}
 use Rattle.tcl_sat.specs.State.{IsState, AddsOne, GoesOn, IsRunning}
 
@@ -165,3 +166,8 @@ pub spent_no_conflict : (cnf : List (List ℕ)) (budget : ℕ) (log : LogState) 
 spent_no_conflict cnf budget log is one conflict =
     let c = clause_there log.clauses log.given (omega (arith, is.whole, one)) in
     no_conflict cnf c.0 (subst (λ (cs : List (List ℕ)). IsFresh cs c.0) is.log_of.formula (is.fresh.each log.given c.0 (omega arith) c.1)) conflict
+
+-- what holds anyway holds where there is an error
+pub on_err : {T E P : Type 0} (r : Result T E) → P → OnErr r P
+on_err (Ok x) p = tt
+on_err (Err e) p = p

@@ -1,21 +1,13 @@
 -- What a search answers, and the evidence for each answer.
-use Rattle.std.specs.Prelude.{◌≡◌, ℕ, ◌+◌, ◌-◌, ◌*◌, ◌^◌, ◌<◌, ◌≤◌, Bool, true, false, Some, List, [], ◌∷◌, ◌++◌, length, take, drop, slice_get, slice_index_or}
+use Rattle.std.specs.Prelude.{◌≡◌, ℕ, ◌+◌, ◌-◌, ◌*◌, ◌^◌, ◌<◌, ◌≤◌, Bool, true, List, [], ◌∷◌, ◌++◌, length, drop}
+use Rattle.tcl_cnf.specs.Literal.{value_at}
 use Rattle.tcl_cnf.specs.Clause.{Satisfies}
-use Rattle.tcl_cnf.specs.Propagation.{IsFresh}
+use Rattle.tcl_cnf.specs.Variables.{variable_count}
 use Rattle.tcl_cnf.specs.Log.{LogState, has_empty}
-use Rattle.tcl_trail.specs.Trail.{variable_count}
-use Rattle.tcl_lang.specs.Polling.{counted}
+pub use Rattle.tcl_cnf.specs.FreshLogs.{AreFresh, IsLogOf, IsFreshLog}
+use Rattle.tcl_port.specs.Polling.{counted}
 use Rattle.tcl_sat.specs.declared.found.Found.{Found}
 use Rattle.tcl_sat.specs.declared.found.Found.TheVariants.{Refutes, Model, Spent, Stopped}
-
--- each clause from number `given` on is fresh among those before it
-pub record AreFresh (clauses : List (List ℕ)) (given : ℕ) : Type 0 where
-  pub each : (k : ℕ) (c : List ℕ) → given ≤ k → slice_get clauses k ≡ Some c → IsFresh (take k clauses) c
-
--- the log derives clauses from this formula
-pub record IsLogOf (cnf : List (List ℕ)) (log : LogState) : Type 0 where
-  pub given : log.given ≡ length cnf
-  pub formula : take log.given log.clauses ≡ cnf
 
 -- the last clause of the log is derived and empty, and before it there are fewer than `budget` derived clauses, each fresh
 pub record IsRefutation (cnf : List (List ℕ)) (budget : ℕ) (log : LogState) : Type 0 where
@@ -27,20 +19,13 @@ pub record IsRefutation (cnf : List (List ℕ)) (budget : ℕ) (log : LogState) 
   pub refuted : has_empty (drop log.given log.clauses) ≡ true
 
 -- the log has exactly `budget` derived clauses, each fresh and none empty
-pub record IsSpent (cnf : List (List ℕ)) (budget : ℕ) (log : LogState) : Type 0 where
-  pub log_of : IsLogOf cnf log
-  pub whole : length log.clauses ≡ log.given + budget
-  pub fresh : AreFresh log.clauses log.given
-  pub none_empty : has_empty (drop log.given log.clauses) ≡ false
-
--- the values that bits give to the variables in order
-abbrev pub values_of : List Bool → ℕ → Bool
-values_of bits v = slice_index_or bits v false
+abbrev pub IsSpent : List (List ℕ) → ℕ → LogState → Type 0
+IsSpent cnf budget log = IsFreshLog cnf budget log
 
 -- one bit for each variable up to the greatest that a clause names, and these bits make each clause true
 pub record IsModel (cnf : List (List ℕ)) (bits : List Bool) : Type 0 where
   pub each : length bits ≡ variable_count cnf
-  pub meets : Satisfies (values_of bits) cnf
+  pub meets : Satisfies (value_at bits) cnf
 
 -- the evidence for an answer
 abbrev pub IsFound : List (List ℕ) → ℕ → Found → Type 0

@@ -8,7 +8,7 @@ use Rattle.tcl_trail.specs.Assignment.{lits_of, value_in}
 use Rattle.tcl_trail.specs.Trail.{TrailState, IsFalseAt, variable_count}
 use Rattle.tcl_sat.specs.declared.descent.Descent.{Descent}
 use Rattle.tcl_sat.specs.declared.descent.Descent.TheVariants.{Conflict, Valued}
-use Rattle.tcl_lang.specs.Polling.{counted, Rose}
+use Rattle.tcl_port.specs.Polling.{counted, Rose}
 use Rattle.tcl_sat.specs.declared.solver.Turn.{Turn}
 use Rattle.tcl_sat.specs.declared.solver.Turn.TheVariants.{Learnt, Emptied, Met}
 use Rattle.tcl_sat.specs.declared.solver.End.{End}

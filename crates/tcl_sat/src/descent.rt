@@ -9,7 +9,7 @@ use crate::order::Order;
 use tcl_cnf::Lit;
 use tcl_trail::{Step, Trail};
 
-// The end of a descent.
+/// The end of a descent.
 #[derive(Clone, Copy)]
 pub(crate) enum Descent {
     // The clause of this number is false.
@@ -18,7 +18,7 @@ pub(crate) enum Descent {
     Valued,
 }
 
-// A literal that has no value, or none where each variable has one.
+/// A literal that has no value, or none where each variable has one.
 fn pick(trail: &Trail, order: &mut Order) -> Option<Lit>
     ensures { MatchOption result (AreValued trail.now) (λ lit. (lit / 2 < variable_count trail.now.clauses) × (value_in (lits_of trail.now.entries) lit ≡ None)) }
 {
@@ -28,7 +28,7 @@ fn pick(trail: &Trail, order: &mut Order) -> Option<Lit>
     }
 }
 
-// The next literal in the order that has no value, if there is one.
+/// The next literal in the order that has no value, if there is one.
 fn next_in_order(trail: &Trail, order: &mut Order) -> Option<Lit>
     ensures { IfSome result (λ lit. (lit / 2 < variable_count trail.now.clauses) × (value_in (lits_of trail.now.entries) lit ≡ None)) }
 {
@@ -45,7 +45,7 @@ fn next_in_order(trail: &Trail, order: &mut Order) -> Option<Lit>
     None
 }
 
-// The first variable that has no value, if there is one.
+/// The first variable that has no value, if there is one.
 fn first_unvalued(trail: &Trail) -> Option<Lit>
     ensures { MatchOption result (AreValued trail.now) (λ lit. (lit / 2 < variable_count trail.now.clauses) × (value_in (lits_of trail.now.entries) lit ≡ None)) }
 {
@@ -59,7 +59,7 @@ fn first_unvalued(trail: &Trail) -> Option<Lit>
     None
 }
 
-// Assumes and propagates literals.
+/// Assumes and propagates literals.
 pub(crate) fn descend(trail: &mut Trail, order: &mut Order) -> Descent
     requires quiet { WasQuiet trail.old.clauses trail.old.entries }
     ensures clauses { trail.new.clauses ≡ trail.old.clauses }

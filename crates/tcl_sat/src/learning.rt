@@ -4,18 +4,36 @@ ghost use Rattle.std.specs.Prelude.{◌≡◌, ◌<◌, IfOk, OnOk, MatchBool, S
 ghost use Rattle.tcl_cnf.specs.Resolution.{chain_of};
 ghost use Rattle.tcl_trail.specs.Assignment.{lits_of};
 ghost use Rattle.tcl_trail.specs.Trail.{IsFalseAt};
-ghost use Rattle.tcl_sat.specs.Analysis.{AreGiven, IsFloor};
+ghost use Rattle.tcl_sat.specs.Analysis.{AreGiven, IsFloor, IsPoint};
 ghost use Rattle.tcl_sat.specs.State.{IsState, AddsOne, GoesOn};
 
 use crate::analysis;
 use crate::derivation::Derivation;
-use crate::minimization::minimize;
+use crate::minimization::Minimizer;
 use crate::order::Order;
 use std::alloc::{AllocError, Global};
-use tcl_cnf::{Log, LogFault};
+use tcl_cnf::{Lit, Log, LogFault};
 use tcl_trail::Trail;
 
-// Logs what was derived, and answers the number of the new clause.
+/// What learning keeps besides the log and the trail: the order of decisions, and tables that serve all conflicts.
+#[derive(Drop)]
+pub(crate) struct Learner {
+    pub(crate) order: Order,
+    derivation: Derivation,
+    minimizer: Minimizer,
+}
+
+impl Learner {
+    pub(crate) fn new(alloc: Global, variables: u32) -> Result<Learner, AllocError> {
+        Ok(Learner {
+            order: Order::new(alloc, variables)?,
+            derivation: Derivation::new(alloc),
+            minimizer: Minimizer::new(alloc),
+        })
+    }
+}
+
+/// Logs what was derived, and answers the number of the new clause.
 fn log_derived(log: &mut Log, derivation: &Derivation) -> Result<u32, AllocError>
     requires { chain_of log.old.clauses derivation.now.chain ≡ Some derivation.now.clause }
     ensures added { OnOk result (AddsOne log.old log.new derivation.now.clause) }
@@ -28,26 +46,63 @@ fn log_derived(log: &mut Log, derivation: &Derivation) -> Result<u32, AllocError
     }
 }
 
-// Derives the empty clause from a false clause, where no literal is assumed.
-fn refute(alloc: Global, log: &mut Log, trail: &Trail, number: u32) -> Result<(), AllocError>
+/// Derives the empty clause from a false clause, where no literal is assumed.
+fn refute(
+    log: &mut Log,
+    trail: &Trail,
+    derivation: &mut Derivation,
+    number: u32,
+) -> Result<(), AllocError>
     requires agree { log.old.clauses ≡ trail.now.clauses }
     requires given { AreGiven trail.now.entries }
     requires falsified { IsFalseAt trail.now.clauses (lits_of trail.now.entries) number }
     ensures { OnOk result (AddsOne log.old log.new []) }
 {
     trail.known();
-    let mut derivation = Derivation::begin(alloc, number, log.clause(number))?;
-    analysis::sink_all(log, trail, &mut derivation)?;
-    log_derived(log, &derivation)?;
+    derivation.begin(number, log.clause(number))?;
+    analysis::sink_all(log, trail, derivation)?;
+    log_derived(log, derivation)?;
     Ok(())
 }
 
-// Learns the clause of a conflict above the floor, the place of the last assumed literal.
+/// Derives the clause that is learnt from a conflict above the floor, the place of the last assumed literal, and answers the
+/// first unique implication point.
+fn derive_above(
+    log: &Log,
+    trail: &Trail,
+    learner: &mut Learner,
+    number: u32,
+    floor: u32,
+) -> Result<Lit, AllocError>
+    requires state { IsState log.now trail.now }
+    requires floor { IsFloor trail.now.entries floor }
+    requires falsified { IsFalseAt trail.now.clauses (lits_of trail.now.entries) number }
+    ensures { IfOk result (λ point. IsPoint trail.now.clauses trail.now.entries learner.new.derivation floor point) }
+{
+    trail.known();
+    let clause = log.clause(number);
+    learner.derivation.begin(number, clause)?;
+    let level = analysis::level_at(trail, floor);
+    let point = analysis::explain(
+        log,
+        trail,
+        floor,
+        level,
+        clause.lits(),
+        &mut learner.derivation,
+    )?;
+    learner.order.touch_all(learner.derivation.seen());
+    learner
+        .minimizer
+        .minimize(log, trail, floor, level, point, &mut learner.derivation)?;
+    Ok(point)
+}
+
+/// Learns the clause of a conflict above the floor.
 fn learn_above(
-    alloc: Global,
     log: &mut Log,
     trail: &mut Trail,
-    order: &mut Order,
+    learner: &mut Learner,
     number: u32,
     floor: u32,
 ) -> Result<(), AllocError>
@@ -57,26 +112,22 @@ fn learn_above(
     ensures { OnOk result (GoesOn log.old log.new trail.new) }
 {
     trail.known();
-    let mut derivation = Derivation::begin(alloc, number, log.clause(number))?;
-    let front = analysis::front_of(alloc, trail, floor)?;
-    let point = analysis::explain(log, trail, floor, &front, &mut derivation)?;
-    touch_all(log, order, derivation.chain());
-    minimize(alloc, log, trail, floor, point, &mut derivation)?;
-    let level = analysis::jump_level(trail, derivation.lits(), point);
-    let learnt = log_derived(log, &derivation)?;
-    release_above(trail, order, level)?;
+    let point = derive_above(log, trail, learner, number, floor)?;
+    let learnt = log_derived(log, &learner.derivation)?;
+    let clause = log.clause(learnt);
+    let level = analysis::jump_level(trail, clause.lits(), point);
+    release_above(trail, &mut learner.order, level)?;
     trail.back_to(level);
-    trail.add(log.clause(learnt))?;
+    trail.add(clause)?;
     Ok(())
 }
 
-// Learns from a conflict, at this clause. The answer is whether the search goes on: where no literal is assumed, the
-// empty clause is derived and it ends.
+/// Learns from a conflict, at this clause. The answer is whether the search goes on: where no literal is assumed, the
+/// empty clause is derived and it ends.
 pub(crate) fn learn(
-    alloc: Global,
     log: &mut Log,
     trail: &mut Trail,
-    order: &mut Order,
+    learner: &mut Learner,
     number: u32,
 ) -> Result<bool, AllocError>
     requires state { IsState log.old trail.old }
@@ -85,34 +136,17 @@ pub(crate) fn learn(
 {
     match analysis::floor_of(trail) {
         None => {
-            refute(alloc, log, trail, number)?;
+            refute(log, trail, &mut learner.derivation, number)?;
             Ok(false)
         }
         Some(floor) => {
-            learn_above(alloc, log, trail, order, number, floor)?;
+            learn_above(log, trail, learner, number, floor)?;
             Ok(true)
         }
     }
 }
 
-// Makes the variables of these clauses more active.
-fn touch_all(log: &Log, order: &mut Order, numbers: &[u32]) {
-    order.next();
-    for number in numbers {
-        touch_clause(log, order, *number);
-    }
-}
-
-// Makes the variables of the clause of this number more active, if there is one.
-fn touch_clause(log: &Log, order: &mut Order, number: u32) {
-    if (number as usize) < log.len() {
-        for lit in log.clause(number).lits() {
-            order.touch(lit.variable());
-        }
-    }
-}
-
-// Gives the variables of the literals above the level back to the order, with their values.
+/// Gives the variables of the literals above the level back to the order, with their values.
 pub(crate) fn release_above(
     trail: &Trail,
     order: &mut Order,

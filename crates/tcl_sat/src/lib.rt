@@ -10,11 +10,8 @@ mod minimization;
 mod order;
 mod restart;
 mod solver;
-mod table;
+mod turned;
 mod values;
 
 pub use found::Found;
 pub use solver::search;
-
-#[cfg(test)]
-mod tests;

@@ -1,10 +1,10 @@
 // When a search starts again with no literal assumed: after the terms 1 1 2 1 1 2 4 .. of a sequence times a number of
 // conflicts (Luby, Sinclair, Zuckerman, Information Processing Letters 47, 1993).
 
-// How many conflicts a term stands for.
+/// How many conflicts a term stands for.
 const UNIT: u64 = 32;
 
-// The next term of the sequence, by Knuth's reluctant doubling, and the conflicts left of it.
+/// The next term of the sequence, by Knuth's reluctant doubling, and the conflicts left of it.
 #[derive(Clone, Copy)]
 pub(crate) struct Restarts {
     number: u64,
@@ -21,7 +21,7 @@ impl Restarts {
         }
     }
 
-    // Counts a conflict that is to come; whether the search is to start again before it.
+    /// Counts a conflict that is to come; whether the search is to start again before it.
     pub(crate) fn is_due(&mut self) -> bool {
         if self.left > 0 {
             self.left -= 1;
@@ -32,7 +32,7 @@ impl Restarts {
         true
     }
 
-    // Goes on to the next term.
+    /// Goes on to the next term.
     fn advance(&mut self) {
         if self.number & self.number.wrapping_neg() == self.term {
             self.number = self.number.wrapping_add(1);

@@ -2,21 +2,21 @@
 
 ghost use Rattle.std.specs.Prelude.{◌≡◌, ◌==◌, ◌<◌, ◌≤◌, if◌then◌else◌, None, Ok, IfOk, IfSome, OnOk, OnErr, length};
 ghost use Rattle.tcl_cnf.specs.Propagation.{ConflictsAtOnce};
-ghost use Rattle.tcl_lang.specs.Polling.{counted, Rose};
+ghost use Rattle.tcl_port.specs.Polling.{counted, Rose};
 ghost use Rattle.tcl_sat.specs.Found.{IsFound, IsDecided, IsPolled, IsStopped};
 ghost use Rattle.tcl_sat.specs.State.{IsState, IsBegun, IsTurn, IsRunEnd, IsRunStopped, IsRunBounded};
 
 use crate::descent::{self, Descent};
 use crate::found::Found;
-use crate::order::Order;
+use crate::learning::{self, Learner};
 use crate::restart::Restarts;
-use crate::{learning, values};
+use crate::values;
 use std::alloc::{AllocError, Global};
 use tcl_cnf::{Cnf, Log};
-use tcl_lang::{Poll, Port};
+use tcl_port::{Poll, Port};
 use tcl_trail::Trail;
 
-// What going down to the next conflict did.
+/// What going down to the next conflict did.
 #[derive(Clone, Copy)]
 pub(crate) enum Turn {
     // A clause was learnt.
@@ -27,7 +27,7 @@ pub(crate) enum Turn {
     Met,
 }
 
-// How the rounds end.
+/// How the rounds end.
 #[derive(Clone, Copy)]
 pub(crate) enum End {
     Refuted,
@@ -36,12 +36,12 @@ pub(crate) enum End {
     Stopped,
 }
 
-// A search under way.
+/// A search under way.
 #[derive(Drop)]
 struct Solver {
     log: Log,
     trail: Trail,
-    order: Order,
+    learner: Learner,
     restarts: Restarts,
 }
 
@@ -71,7 +71,7 @@ pub fn search<P: Port>(
     let mut solver = Solver::begin(alloc, cnf)?;
     let variables = solver.trail.variables();
     solver.trail.known();
-    match solver.run(alloc, budget, round, port)? {
+    match solver.run(budget, round, port)? {
         End::Refuted => Ok(Found::Refutes(solver.into_log())),
         End::Satisfied => {
             solver.trail.known();
@@ -84,42 +84,36 @@ pub fn search<P: Port>(
 }
 
 impl Solver {
-    // Nothing is learnt yet.
+    /// Nothing is learnt yet.
     fn begin(alloc: Global, cnf: &Cnf) -> Result<Solver, AllocError>
         ensures { IfOk result (λ solver. IsBegun cnf.now solver.log solver.trail) }
     {
         let log = Log::begin(cnf.copy()?);
         let trail = Trail::new(alloc, cnf)?;
-        let order = Order::new(alloc, trail.variables())?;
+        let learner = Learner::new(alloc, trail.variables())?;
         Ok(Solver {
             log,
             trail,
-            order,
+            learner,
             restarts: Restarts::new(),
         })
     }
 
-    // Gives up the log.
+    /// Gives up the log.
     fn into_log(self) -> Log
         ensures { result ≡ self.log }
     {
         let Solver {
             log,
             trail: _,
-            order: _,
+            learner: _,
             restarts: _,
         } = self;
         log
     }
 
-    // Goes on from conflict to conflict, as long as budget and port allow.
-    fn run<P: Port>(
-        &mut self,
-        alloc: Global,
-        budget: u32,
-        round: u32,
-        port: &mut P,
-    ) -> Result<End, AllocError>
+    /// Goes on from conflict to conflict, as long as budget and port allow.
+    fn run<P: Port>(&mut self, budget: u32, round: u32, port: &mut P) -> Result<End, AllocError>
         requires budget { 1 ≤ budget }
         requires round { 1 ≤ round }
         requires state { IsState self.old.log self.old.trail }
@@ -135,7 +129,7 @@ impl Solver {
             let Some(allowed) = conflicts_allowed(port, left, round) else {
                 return Ok(End::Stopped);
             };
-            match self.next_conflict(alloc)? {
+            match self.next_conflict()? {
                 Turn::Learnt => {}
                 Turn::Emptied => return Ok(End::Refuted),
                 Turn::Met => return Ok(End::Satisfied),
@@ -145,44 +139,39 @@ impl Solver {
         Ok(End::Spent)
     }
 
-    // Goes down to the next conflict, and learns from it.
-    fn next_conflict(&mut self, alloc: Global) -> Result<Turn, AllocError>
+    /// Goes down to the next conflict, and learns from it.
+    fn next_conflict(&mut self) -> Result<Turn, AllocError>
         requires { IsState self.old.log self.old.trail }
         ensures { IfOk result (λ turn. IsTurn self.old.log self.new.log self.new.trail turn) }
     {
         self.start_again()?;
-        let Descent::Conflict(number) = descent::descend(&mut self.trail, &mut self.order) else {
+        let Descent::Conflict(number) = descent::descend(&mut self.trail, &mut self.learner.order)
+        else {
             return Ok(Turn::Met);
         };
-        if learning::learn(
-            alloc,
-            &mut self.log,
-            &mut self.trail,
-            &mut self.order,
-            number,
-        )? {
+        if learning::learn(&mut self.log, &mut self.trail, &mut self.learner, number)? {
             Ok(Turn::Learnt)
         } else {
             Ok(Turn::Emptied)
         }
     }
 
-    // Takes all assumptions back, where a restart is due.
+    /// Takes all assumptions back, where a restart is due.
     fn start_again(&mut self) -> Result<(), AllocError>
         requires { IsState self.old.log self.old.trail }
         ensures log { OnOk result (self.new.log ≡ self.old.log) }
         ensures state { OnOk result (IsState self.new.log self.new.trail) }
     {
         if self.restarts.is_due() {
-            learning::release_above(&self.trail, &mut self.order, 0)?;
+            learning::release_above(&self.trail, &mut self.learner.order, 0)?;
             self.trail.back_to(0);
         }
         Ok(())
     }
 }
 
-// How many conflicts are allowed before the next poll, where `left` are left of a round; none where the port answers
-// that the search is not wanted any more.
+/// How many conflicts are allowed before the next poll, where `left` are left of a round; none where the port answers
+/// that the search is not wanted any more.
 fn conflicts_allowed<P: Port>(port: &mut P, left: u32, round: u32) -> Option<u32>
     ensures polls { P.polls port.new ≡ (if left == 0 then counted (P.polls port.old) else P.polls port.old) }
     ensures go { IfSome result (λ allowed. (allowed ≡ (if left == 0 then round else left)) × (P.cancels port.new ≡ P.cancels port.old)) }

@@ -9,7 +9,7 @@ use std::alloc::{AllocError, Global};
 use tcl_cnf::{Bits, Lit};
 use tcl_trail::Trail;
 
-// The values of the first variables.
+/// The values of the first variables.
 pub(crate) fn bits_of(alloc: Global, trail: &Trail, variables: u32) -> Result<Bits, AllocError>
     requires { variables ≤ 2 ^ 31 }
     ensures { IfOk result (λ bits. AreRead (lits_of trail.now.entries) variables bits) }
@@ -21,7 +21,7 @@ pub(crate) fn bits_of(alloc: Global, trail: &Trail, variables: u32) -> Result<Bi
     Ok(bits)
 }
 
-// Whether the variable is true.
+/// Whether the variable is true.
 fn is_true(trail: &Trail, variable: u32) -> bool
     requires { variable < 2 ^ 31 }
     ensures { result ≡ has (2 * variable) (lits_of trail.now.entries) }

@@ -1,6 +1,6 @@
 -- What is read of a text keeps the shape of a program, line by line.
 use Rattle.std.proofs.Common.{◌≡◌, ◌<◌, ◌≤◌, ◌+◌, ◌-◌, ◌^◌, ℕ, true, List, [], ◌∷◌, ◌++◌, length, Ok, refl, sym, ap, subst, ◌∙◌, arith, append-nil}
-use Rattle.std.specs.Prelude.{Some, nat_le, nat_lt, flat_map}
+use Rattle.std.specs.Prelude.{Some, nat_le, nat_lt, map, flat_map}
 use Rattle.std.specs.List.{list_all}
 use Rattle.std.proofs.lemmas.Bool.{and_parts, and_from, le-leb, leb-true}
 use Rattle.std.proofs.lemmas.List.{length-append}
@@ -32,7 +32,7 @@ last_stage stage (l ∷ lines) = last_stage (stage_of l) lines
 pub record Kept (s : Progress) : Type 0 where
   pub few : length s.lines < s.number
   pub places : length s.places ≡ length s.lines
-  pub stages : in_stages 0 s.lines ≡ true
+  pub stages : in_stages 0 (map stage_of s.lines) ≡ true
   pub last : last_stage 0 s.lines ≤ s.stage
   pub stage : s.stage ≤ 4
   pub shapes : list_all is_line s.lines ≡ true
@@ -74,11 +74,11 @@ kept_skipped s k = record {
   numbered = k.numbered;
 }
 
-stages_push : (stage : ℕ) (lines : List Line) (l : Line) → in_stages stage lines ≡ true → last_stage stage lines ≤ stage_of l →
-    in_stages stage (lines ++ l ∷ []) ≡ true
+stages_push : (stage : ℕ) (lines : List Line) (l : Line) → in_stages stage (map stage_of lines) ≡ true → last_stage stage lines ≤ stage_of l →
+    in_stages stage (map stage_of (lines ++ l ∷ [])) ≡ true
 stages_push stage [] l e h = and_from _ _ (le-leb _ _ h) refl
 stages_push stage (k ∷ lines) l e h =
-    let p = and_parts (nat_le stage (stage_of k)) (in_stages (stage_of k) lines) e in
+    let p = and_parts (nat_le stage (stage_of k)) (in_stages (stage_of k) (map stage_of lines)) e in
     and_from _ _ p.0 (stages_push (stage_of k) lines l p.1 h)
 
 last_push : (stage : ℕ) (lines : List Line) (l : Line) → last_stage stage (lines ++ l ∷ []) ≡ stage_of l
@@ -98,11 +98,8 @@ occurrences_push lines l =
 stage_within : (l : Line) → nat_le (stage_of l) 4 ≡ true
 stage_within (line.Input T x) = refl
 stage_within (line.Pre p) = refl
-stage_within (line.Step i) = refl
-stage_within (line.Assert p) = refl
-stage_within (line.Assume p) = refl
-stage_within (line.Cut p) = refl
 stage_within (line.Post p) = refl
+stage_within _ = refl
 
 no_names : {ts : List Token} → IsStatement ts End → token_names ts ≡ []
 no_names end_line = refl

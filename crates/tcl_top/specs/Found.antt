@@ -1,5 +1,5 @@
 -- What a walk over inputs in order has found: for each goal the number of the first input that refutes it.
-use Rattle.std.specs.Prelude.{◌≡◌, ◌<◌, ◌≤◌, ℕ, true, List, length, slice_get, slice_set, slice_index_or, Option, Some, None}
+use Rattle.std.specs.Prelude.{◌≡◌, ◌<◌, ◌≤◌, ℕ, true, List, map, length, slice_get, slice_set, slice_index_or, Option, Some, None}
 use Rattle.tcl_lang.specs.declared.ty.Ty.{Ty}
 use Rattle.tcl_lang.specs.declared.pred.Line.{Line}
 use Rattle.tcl_lang.specs.Correct.{IsCounterexample}
@@ -7,7 +7,7 @@ use Rattle.std.specs.List.{list_all}
 use Rattle.tcl_top.specs.declared.answer.Answer.{Answer}
 use Rattle.tcl_top.specs.declared.answer.Answer.TheVariants.{Proved, Refuted}
 use Rattle.tcl_lang.specs.Run.{taken_types}
-use Rattle.tcl_lang.specs.Shape.{in_stages}
+use Rattle.tcl_lang.specs.Shape.{stage_of, in_stages}
 use Rattle.tcl_top.specs.Early.{AreEarly}
 use Rattle.tcl_top.specs.Inputs.{nth_input}
 
@@ -37,7 +37,7 @@ noted found i n = slice_set found i (first_of (slice_index_or found i None) n)
 -- what the walk needs of a program's lines
 pub record IsWalkable (lines : List Line) : Type 0 where
   pub early : AreEarly lines
-  pub stages : in_stages 0 lines ≡ true
+  pub stages : in_stages 0 (map stage_of lines) ≡ true
 
 -- the answer for a goal of this finding
 abbrev pub answer_of : List Ty → Option ℕ → Answer

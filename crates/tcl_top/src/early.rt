@@ -4,7 +4,6 @@ ghost use Rattle.std.specs.Prelude.{◌≡◌, ◌<◌, ◌≤◌, ◌+◌, true
 ghost use Rattle.std.specs.List.{list_all};
 ghost use Rattle.tcl_top.specs.Early as early;
 
-use crate::inputs::taken_type;
 use tcl_lang::{Atom, Instr, Line, Lines, Op, Pred, RngPred, RngTerm, Ty};
 
 /// The greatest number of lines.
@@ -94,7 +93,7 @@ fn is_early_line(line: &Line) -> bool
 fn taken_width(line: &Line) -> u32
     ensures { result ≡ early.taken_width line.now }
 {
-    match taken_type(line) {
+    match line.taken_type() {
         Some(ty) => ty.width,
         None => 0,
     }

@@ -1,28 +1,12 @@
 //! The inputs of a program by their numbers.
 
 ghost use Rattle.std.specs.Prelude.{◌≡◌, ◌≤◌, ◌<◌, ◌^◌, ◌+◌, ◌/◌, ◌%◌, IfOk, length, filter_map, pos, slice_set};
-ghost use Rattle.std.specs.Option.{option_copied};
-ghost use Rattle.tcl_lang.specs.Line as line_words;
 ghost use Rattle.tcl_lang.specs.Run as run_words;
 ghost use Rattle.tcl_top.specs.Early as early;
 ghost use Rattle.tcl_top.specs.Inputs.{nth_input};
 
 use std::alloc::{AllocError, Global};
-use tcl_lang::{Line, Op, Ty};
-
-/// The type of the value that a line takes from the input.
-pub(crate) fn taken_type(line: &Line) -> Option<Ty>
-    ensures { result ≡ line_words.taken_type line.now }
-{
-    match line {
-        Line::Input(ty, _) => Some(*ty),
-        Line::Step(instr) => match instr.op {
-            Op::Nondet => Some(instr.ty),
-            _ => None,
-        },
-        _ => None,
-    }
-}
+use tcl_lang::{Line, Ty};
 
 /// The types of the values that the lines take.
 #[tactic(auto, using(crate::proofs::InputLemmas::taken_types_some, crate::proofs::InputLemmas::taken_types_none))]
@@ -31,7 +15,7 @@ pub(crate) fn taken_types(alloc: Global, lines: &[Line]) -> Result<Vec<Ty>, Allo
 {
     let mut types = Vec::new(alloc);
     for line in lines {
-        if let Some(ty) = taken_type(line) {
+        if let Some(ty) = line.taken_type() {
             types.push(ty)?;
         }
     }

@@ -12,6 +12,3 @@ mod walk;
 
 pub use answer::Answer;
 pub use solo::{Done, solo_run};
-
-#[cfg(test)]
-mod tests;

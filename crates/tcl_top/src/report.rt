@@ -6,7 +6,6 @@ ghost use Rattle.tcl_top.specs.Answers as answer_words;
 ghost use Rattle.tcl_top.specs.Report as report_words;
 
 use crate::answer::Answer;
-use crate::walk::is_goal;
 use std::alloc::{AllocError, Global};
 use tcl_lang::{Line, Names, Program, Typed};
 use tcl_list::Listing;
@@ -165,7 +164,7 @@ fn add_line(
 ) -> Result<(), AllocError>
     ensures ok { OnOk result (text.new.items ≡ text.old.items ++ report_words.line_text typed.now.program typed.now.places answers.now k i line.now) }
 {
-    if !is_goal(line) {
+    if !line.is_goal() {
         return Ok(());
     }
     let answer = answer_at(answers, i);
@@ -210,7 +209,7 @@ fn add_goals(
     for k in 0..lines.len() {
         let line = lines.at(k);
         add_line(alloc, text, typed, answers, k, i, line)?;
-        i = counted(i, is_goal(line));
+        i = counted(i, line.is_goal());
     }
     Ok(())
 }

@@ -2,7 +2,6 @@
 
 ghost use Rattle.std.specs.Prelude.{◌≡◌, ◌<◌, ◌≤◌, ◌+◌, ◌^◌, ◌-◌, ℕ, true, false, cond, IfSome, IfOk, None, Some, length, map, replicate, slice_get, slice_index_or, pos};
 ghost use Rattle.std.specs.List.{list_all};
-ghost use Rattle.tcl_lang.specs.Exactness as exactness_words;
 ghost use Rattle.tcl_lang.specs.Store as store_words;
 ghost use Rattle.tcl_lang.specs.Line as line_words;
 ghost use Rattle.tcl_lang.specs.Run as run_words;
@@ -19,7 +18,7 @@ use crate::answer::Answer;
 use crate::evaluation::{EMPTY, pass_line};
 use crate::inputs::{taken_types, total_width, write_input};
 use std::alloc::{AllocError, Global};
-use tcl_lang::{Line, Lines, Op, Program, Ty, Word};
+use tcl_lang::{Line, Lines, Program, Ty, Word};
 use tcl_list::Listing;
 
 /// A line that is false in a run, with the number of goals before it.
@@ -29,47 +28,11 @@ struct FalseLine {
     goal: u32,
 }
 
-/// Whether an instruction has an exactness condition.
-fn has_condition(op: Op) -> bool
-    ensures { result ≡ exactness_words.has_condition op }
-{
-    match op {
-        Op::Add => true,
-        Op::Adc => true,
-        Op::Sub => true,
-        Op::Sbb => true,
-        Op::Mul => true,
-        Op::Shl => true,
-        Op::Vpc => true,
-        _ => false,
-    }
-}
-
-/// Whether a line has a goal.
-pub(crate) fn is_goal(line: &Line) -> bool
-    ensures { result ≡ line_words.is_goal line.now }
-{
-    match line {
-        Line::Step(instr) => has_condition(instr.op),
-        Line::Assert(_) => true,
-        Line::Cut(_) => true,
-        Line::Post(_) => true,
-        _ => false,
-    }
-}
-
 /// Whether a line takes a value from the input.
 fn takes_value(line: &Line) -> bool
     ensures { result ≡ is_some (line_words.taken_type line.now) }
 {
-    match line {
-        Line::Input(_, _) => true,
-        Line::Step(instr) => match instr.op {
-            Op::Nondet => true,
-            _ => false,
-        },
-        _ => false,
-    }
+    line.taken_type().is_some()
 }
 
 /// The count with one more, where there is one more.
@@ -110,7 +73,7 @@ fn first_false(lines: &Lines, input: &[i128], store: &mut [Word]) -> Option<Fals
         if !passed {
             return Some(FalseLine { place, goal });
         }
-        goal = counted(goal, is_goal(line));
+        goal = counted(goal, line.is_goal());
         taken = counted(taken, takes_value(line));
     }
     None
@@ -127,7 +90,7 @@ fn refuted_goal(lines: &Lines, input: &[i128], store: &mut [Word]) -> Option<u32
 {
     match first_false(lines, input, store) {
         Some(found) => {
-            if is_goal(lines.at(found.place)) {
+            if lines.at(found.place).is_goal() {
                 return Some(found.goal);
             }
             None
@@ -185,7 +148,7 @@ fn goal_count(lines: &[Line]) -> usize
 {
     let mut goals = 0;
     for line in lines {
-        if is_goal(line) {
+        if line.is_goal() {
             goals += 1;
         }
     }

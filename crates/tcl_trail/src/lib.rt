@@ -1,18 +1,22 @@
 //! The assignment trail of a search: assumed literals, and what unit propagation over the clauses gives from them. The
-//! clauses are kept in a plain list and scanned.
+//! clauses are watched at two literals each.
 #![tactic(auto)]
 
+mod assigned;
+mod choosing;
 mod counting;
 mod entry;
-mod levels;
+mod fact;
+mod pair;
 mod propagation;
 mod scan;
+mod scanning;
 mod step;
 mod trail;
+mod visiting;
+mod watch_list;
+mod watching;
 
 pub use entry::Entry;
 pub use step::Step;
 pub use trail::Trail;
-
-#[cfg(test)]
-mod tests;

@@ -14,6 +14,3 @@ pub use fault::TypeFault;
 pub use program::check;
 pub use reasons::reason_at;
 pub use table::Types;
-
-#[cfg(test)]
-mod tests;

@@ -59,42 +59,36 @@ fn is_amount_allowed(line: &Line) -> bool
 fn has_undefined(types: &Types, line: &Line) -> bool
     ensures { result ≡ typing.has_undefined types.now line.now }
 {
-    match line {
-        Line::Input(..) => false,
-        Line::Step(instr) => any_undefined(types, instr.args.as_slice()),
-        Line::Pre(pred)
-        | Line::Assert(pred)
-        | Line::Assume(pred)
-        | Line::Cut(pred)
-        | Line::Post(pred) => uses_undefined(types, pred),
+    match line.predicate() {
+        Some(pred) => uses_undefined(types, pred),
+        None => match line.instruction() {
+            Some(instr) => any_undefined(types, instr.args.as_slice()),
+            None => false,
+        },
     }
 }
 
 fn has_unsound_literal(line: &Line) -> bool
     ensures { result ≡ typing.has_unsound_literal line.now }
 {
-    match line {
-        Line::Input(..) => false,
-        Line::Step(instr) => !all_sound_literals(instr.args.as_slice()),
-        Line::Pre(pred)
-        | Line::Assert(pred)
-        | Line::Assume(pred)
-        | Line::Cut(pred)
-        | Line::Post(pred) => !has_sound_literals(pred),
+    match line.predicate() {
+        Some(pred) => !has_sound_literals(pred),
+        None => match line.instruction() {
+            Some(instr) => !all_sound_literals(instr.args.as_slice()),
+            None => false,
+        },
     }
 }
 
 fn types_agree(types: &Types, line: &Line) -> bool
     ensures { result ≡ typing.agrees_in_types types.now line.now }
 {
-    match line {
-        Line::Input(..) => true,
-        Line::Step(instr) => operands_suit(types, instr),
-        Line::Pre(pred)
-        | Line::Assert(pred)
-        | Line::Assume(pred)
-        | Line::Cut(pred)
-        | Line::Post(pred) => agrees(types, pred),
+    match line.predicate() {
+        Some(pred) => agrees(types, pred),
+        None => match line.instruction() {
+            Some(instr) => operands_suit(types, instr),
+            None => true,
+        },
     }
 }
 
@@ -111,12 +105,8 @@ fn repeats(types: &Types, line: &Line) -> bool
 fn is_modulus_sound(line: &Line) -> bool
     ensures { result ≡ typing.has_sound_modulus (predicate_of line.now) }
 {
-    match line {
-        Line::Input(..) | Line::Step(_) => true,
-        Line::Pre(pred)
-        | Line::Assert(pred)
-        | Line::Assume(pred)
-        | Line::Cut(pred)
-        | Line::Post(pred) => has_sound_modulus(pred),
+    match line.predicate() {
+        Some(pred) => has_sound_modulus(pred),
+        None => true,
     }
 }

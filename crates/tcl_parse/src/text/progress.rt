@@ -100,7 +100,7 @@ impl Progress {
         ensures lines { OnOk result (self.new.lines ≡ self.old.lines ++ line ∷ []) }
         ensures places { OnOk result (self.new.places ≡ self.old.places ++ self.old.number ∷ []) }
     {
-        self.stage = stage_of(&line);
+        self.stage = line.stage();
         self.lines.push(line)?;
         self.places.push(self.number)?;
         self.number += 1;
@@ -117,22 +117,11 @@ impl Progress {
     }
 }
 
-fn stage_of(line: &Line) -> u32
-    ensures { result ≡ stage_spec line.now }
-{
-    match line {
-        Line::Input(..) => 0,
-        Line::Pre(_) => 1,
-        Line::Post(_) => 3,
-        _ => 2,
-    }
-}
-
 fn may_follow(stage: u32, statement: &Statement) -> bool
     ensures { result ≡ text.may_follow stage statement.now }
 {
     match statement {
-        Statement::Program(line) => stage < LAST_STAGE && stage <= stage_of(line),
+        Statement::Program(line) => stage < LAST_STAGE && stage <= line.stage(),
         Statement::End => stage < LAST_STAGE,
     }
 }

@@ -5,8 +5,9 @@ use Rattle.tcl_ring.proofs.Reductions.{is_reduction}
 use Rattle.tcl_poly.specs.Monomial.{Monomial}
 use Rattle.tcl_poly.specs.Polynomial as p
 use Rattle.tcl_poly.proofs.Norms.{wide_saturated}
-use Rattle.tcl_cofactor.specs.Combination.{combination_of, weight_of, IsGreatestDifference}
-use Rattle.tcl_cofactor.proofs.Combinations.{combination_is}
+use Rattle.tcl_poly.specs.Combination.{combination_of, weight_of}
+use Rattle.tcl_cofactor.specs.Comparison.{IsGreatestDifference}
+use Rattle.tcl_poly.proofs.Combinations.{combination_is}
 use Rattle.tcl_cofactor.proofs.answer.check_cofactors.Goals as goal
 
 pub first_difference-requires-clause-second : goal.first_difference-requires-clause-second

@@ -3,8 +3,8 @@ use Rattle.std.proofs.Common.{rules, ◌≡◌, ℕ, suc, ◌+◌, ◌*◌, ◌-
 use Rattle.tcl_ring.specs.Reduction as r
 use Rattle.tcl_ring.proofs.Reductions.{is_reduction}
 use Rattle.tcl_poly.specs.Polynomial as p
-use Rattle.tcl_cofactor.specs.Combination.{combination_of}
-use Rattle.tcl_cofactor.proofs.Combinations.{cofactor_at, read_equation, turn_second, turn_third, turn_product_fits, turn_sum_fits, turn_combination}
+use Rattle.tcl_poly.specs.Combination.{combination_of}
+use Rattle.tcl_poly.proofs.Combinations.{cofactor_at, read_equation, turn_second, turn_third, turn_product_fits, turn_sum_fits, turn_combination}
 use Rattle.tcl_cofactor.proofs.combination.combine.Goals as goal
 
 pub bounds-equations-cofactor : goal.bounds-equations-cofactor

@@ -2,7 +2,7 @@
 use Rattle.std.proofs.Common.{◌≡◌, ◌≤◌, length, drop, map}
 use Rattle.tcl_ring.specs.Reduction.{reduced_by}
 use Rattle.tcl_poly.specs.Polynomial as p
-use Rattle.tcl_cofactor.specs.Combination.{combination_of}
+use Rattle.tcl_poly.specs.Combination.{combination_of}
 use Rattle.tcl_cofactor.proofs.combination.combine.Given as goal
 
 abbrev pub invariant-loop-k : goal.invariant-loop-k

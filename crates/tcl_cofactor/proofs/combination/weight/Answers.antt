@@ -1,8 +1,8 @@
 -- One cofactor more.
 use Rattle.std.proofs.Common.{◌≡◌, ℕ, suc, ◌+◌, ◌*◌, ◌-◌, ◌<◌, ◌≤◌, ◌^◌, length, drop, map, min, sym, ◌∙◌, ap, arith}
 use Rattle.tcl_poly.specs.Polynomial as p
-use Rattle.tcl_cofactor.specs.Combination.{weight_of}
-use Rattle.tcl_cofactor.proofs.Combinations.{cofactor_at, read_equation, turn_weight}
+use Rattle.tcl_poly.specs.Combination.{weight_of}
+use Rattle.tcl_poly.proofs.Combinations.{cofactor_at, read_equation, turn_weight}
 use Rattle.tcl_cofactor.proofs.combination.weight.Goals as goal
 
 pub bounds-equations-cofactor : goal.bounds-equations-cofactor

@@ -1,6 +1,6 @@
 -- The weight of the cofactors from k on.
 use Rattle.std.proofs.Common.{◌≡◌, ◌≤◌, ◌^◌, length, drop, map, min}
-use Rattle.tcl_cofactor.specs.Combination.{weight_of}
+use Rattle.tcl_poly.specs.Combination.{weight_of}
 use Rattle.tcl_cofactor.proofs.combination.weight.Given as goal
 
 abbrev pub invariant-loop-k : goal.invariant-loop-k

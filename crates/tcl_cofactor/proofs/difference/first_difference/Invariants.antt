@@ -2,7 +2,7 @@
 use Rattle.std.proofs.Common.{◌≡◌, ◌≤◌, ◌-◌, length, drop}
 use Rattle.tcl_poly.specs.Monomial.{Monomial}
 use Rattle.tcl_poly.specs.Polynomial as p
-use Rattle.tcl_cofactor.specs.Combination.{IsGreatestDifference}
+use Rattle.tcl_cofactor.specs.Comparison.{IsGreatestDifference}
 use Rattle.tcl_cofactor.proofs.difference.first_difference.Given as goal
 
 abbrev pub invariant-loop-k : goal.invariant-loop-k

@@ -4,4 +4,4 @@ use Rattle.tcl_reduce.specs.Parts as s
 use Rattle.tcl_reduce.proofs.parts.without.Given as goal
 
 abbrev pub invariant-loop-k : goal.invariant-loop-k
-invariant-loop-k l = l.rest ++ s.without l.variable (drop l.k l.mono) ≡ s.without l.variable l.mono
+invariant-loop-k l = l.rest ++ s.without l.key (drop l.k l.mono) ≡ s.without l.key l.mono

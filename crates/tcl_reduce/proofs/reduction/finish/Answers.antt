@@ -12,10 +12,10 @@ returns-then-is_zero g c =
     let order : reverse (numbered c.args.cofactors.items) ≡ numbered c.from_vec-cofactors.result =
     sym (numbered_reverse c.args.cofactors.items) ∙ ap numbered (search rules) in
     let nothing : c.args.rest ≡ [] = search rules in
-    λ value. λ i. Done (p.terms_of value (nothing i)) (pairs_of value (order i))
+    λ value. λ i. Done (p.terms_of value (nothing i)) (pairs_of value (order i)) c.args.spent
 
 pub returns : goal.returns
 returns g c =
     let order : reverse (numbered c.args.cofactors.items) ≡ numbered c.from_vec-cofactors.result =
     sym (numbered_reverse c.args.cofactors.items) ∙ ap numbered (search rules) in
-    λ value. (search rules, ap (λ z. Done (p.terms_of value c.args.rest) (pairs_of value z)) order)
+    λ value. (search rules, ap (λ z. Done (p.terms_of value c.args.rest) (pairs_of value z) c.args.spent) order)

@@ -1,5 +1,5 @@
 -- The reduction by the definitions below k goes on to the end of the whole one.
-use Rattle.std.proofs.Common.{◌≡◌, ◌≤◌, length, reverse}
+use Rattle.std.proofs.Common.{◌≡◌, ◌≤◌, ◌^◌, length, reverse}
 use Rattle.tcl_poly.specs.Polynomial as p
 use Rattle.tcl_reduce.specs.Answer.{definitions_of, numbered}
 use Rattle.tcl_reduce.specs.Reduction.{reduced_from, reduced_of}
@@ -15,6 +15,7 @@ invariant-loop-k g l =
     × p.IsOver m value l.rest
     × (p.degree_of l.rest ≤ 1024)
     × IsCovered m (p.norm_of (p.terms_of value l.rest)) l.spent
+    × (l.spent ≤ 2 ^ 127)
     × (reduced_from m defs l.k (p.terms_of value l.rest) l.spent (pairs_of value (reverse (numbered l.cofactors.items))) ≡ reduced_of m defs (p.terms_of value l.f))
 
 abbrev pub decreases-loop-k : goal.decreases-loop-k

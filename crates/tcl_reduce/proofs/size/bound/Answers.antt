@@ -1,7 +1,7 @@
 -- One power more.
 use Rattle.std.proofs.Common.{rules, ◌≡◌, ◌+◌, ◌^◌, ap, max, min, arith}
 use Rattle.tcl_poly.specs.Polynomial as p
-use Rattle.tcl_cofactor.proofs.Combinations.{read_equation}
+use Rattle.tcl_poly.proofs.Combinations.{read_equation}
 use Rattle.tcl_reduce.specs.Parts.{by_power}
 use Rattle.tcl_reduce.specs.Fits.{values_by}
 use Rattle.tcl_reduce.proofs.SizeTurns.{bound_turn, last_saturates, growth_saturates, growth_turn}

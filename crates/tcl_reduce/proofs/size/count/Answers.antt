@@ -1,6 +1,6 @@
 -- One power more.
 use Rattle.std.proofs.Common.{rules, length}
-use Rattle.tcl_cofactor.proofs.Combinations.{read_equation}
+use Rattle.tcl_poly.proofs.Combinations.{read_equation}
 use Rattle.tcl_reduce.specs.Parts.{by_power}
 use Rattle.tcl_reduce.proofs.SizeTurns.{terms_turn, power_turn}
 use Rattle.tcl_reduce.proofs.size.count.Goals as goal

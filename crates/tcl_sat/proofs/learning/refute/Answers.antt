@@ -7,8 +7,8 @@ use Rattle.tcl_sat.proofs.learning.refute.Goals as goal
 pub sink_all-requires-clause-derived : goal.sink_all-requires-clause-derived
 sink_all-requires-clause-derived c =
     let t = c.args.trail.now in
-    started t.clauses t.entries c.in_ok-derivation.derivation c.args.number c.clause.result.now c.known.ensures.are_clauses c.requires.falsified
-    (agreed c.args.log.now.clauses t.clauses c.args.number c.clause.result.now c.requires.agree c.clause.ensures) c.in_ok-derivation.ensures
+    started t.clauses t.entries c.begin.new.self c.args.number c.clause.result.now c.known.ensures.are_clauses c.requires.falsified
+    (agreed c.args.log.now.clauses t.clauses c.args.number c.clause.result.now c.requires.agree c.clause.ensures) c.in_ok-begin.ensures
 
 pub returns : goal.returns
 returns c =

@@ -1,0 +1,159 @@
+// Typing: the first ill-typed line of a text by its number, with its first reason. A second implementation of the
+// language, the reference, made the tables by its commands `check` and `run`.
+
+mod instructions;
+mod predicates;
+mod programs;
+mod runs;
+
+use std::alloc::{AllocError, Global};
+use std::process::Abort;
+use std::test::Fail;
+use tcl_lang::{Line, Parsed, Reason};
+use tcl_parse::parse;
+use tcl_types::{TypeFault, Types, check, reason_at};
+
+fn word_of(reason: Option<Reason>) -> &'static str {
+    match reason {
+        None => "fine",
+        Some(Reason::Kind) => "kind",
+        Some(Reason::Amount) => "amount",
+        Some(Reason::Undefined) => "undefined",
+        Some(Reason::Literal) => "literal",
+        Some(Reason::Mismatch) => "mismatch",
+        Some(Reason::Repeated) => "repeated",
+        Some(Reason::Modulus) => "modulus",
+    }
+}
+
+// `fine`, or the number of the first ill-typed line and its first reason.
+fn outcome(alloc: Global, parsed: Parsed) -> Result<String, Fail> {
+    match check(alloc, parsed) {
+        Ok(_) => Ok(String::from_str(alloc, "fine")?),
+        Err(TypeFault::Ill(number, reason)) => {
+            Ok(format!(in alloc; "{number} {}", word_of(Some(reason)))?)
+        }
+        Err(TypeFault::Memory) => Err("out of memory")?,
+    }
+}
+
+// The types of the names that all rows have in common.
+fn types_of_names(alloc: Global) -> Result<Types, Fail> {
+    let text = format!(in alloc; "{}end", instructions::NAMES)?;
+    let parsed = parse(alloc, text.as_bytes())?;
+    let mut types = Types::new(alloc, 26)?;
+    for line in parsed.program().lines().as_slice() {
+        if let Line::Input(ty, name) = line {
+            types.set(*name, *ty);
+        }
+    }
+    Ok(types)
+}
+
+// The first reason of the last line.
+fn last_reason(types: &Types, parsed: &Parsed) -> &'static str {
+    match parsed.program().lines().as_slice().last() {
+        Some(line) => word_of(reason_at(types, line)),
+        None => "no line",
+    }
+}
+
+// The row is a reason and a line, which stands in line 15 of a text behind the names.
+fn expect_row(rt: &impl Abort, alloc: Global, types: &Types, row: &str) -> Result<(), Fail> {
+    let (reason, line) = row.split_once(": ").ok_or("no reason")?;
+    let text = format!(in alloc; "{}{line}\nend", instructions::NAMES)?;
+    let parsed = parse(alloc, text.as_bytes())?;
+    assert_eq!(rt; last_reason(types, &parsed), reason, "{line}");
+    let found = outcome(alloc, parsed)?;
+    let found = found.strip_prefix("15 ").unwrap_or(found.as_str());
+    assert_eq!(rt; found, reason, "{line}");
+    Ok(())
+}
+
+#[test]
+fn reasons_of_lines(rt: HostRuntime) -> Result<(), Fail> {
+    let alloc = rt.alloc();
+    let types = types_of_names(alloc)?;
+    for rows in [
+        instructions::INPUTS,
+        instructions::COPIES,
+        instructions::SUMS,
+        instructions::PRODUCTS,
+        instructions::PARTS,
+        instructions::CHOICES,
+        predicates::EQUATIONS,
+        predicates::WORDS,
+    ] {
+        for row in rows.lines() {
+            expect_row(&rt, alloc, &types, row)?;
+        }
+    }
+    Ok(())
+}
+
+// An empty line counts, and says nothing.
+#[test]
+fn outcomes_of_programs(rt: HostRuntime) -> Result<(), Fail> {
+    let alloc = rt.alloc();
+    let mut text = String::new(alloc);
+    for row in programs::PROGRAMS.lines() {
+        if let Some(expected) = row.strip_prefix("end: ") {
+            text.push_str("end")?;
+            let found = outcome(alloc, parse(alloc, text.as_bytes())?)?;
+            assert_eq!(&rt; found.as_str(), expected, "{text}");
+            text.clear();
+        } else {
+            write!(&mut text, "{row}\n")?;
+        }
+    }
+    Ok(())
+}
+
+// The sum of the first 2,000 names.
+fn push_sum(text: &mut String) -> Result<(), AllocError> {
+    text.push_str("n0")?;
+    for k in 1..2000_u32 {
+        write!(&mut *text, " + n{k}")?;
+    }
+    Ok(())
+}
+
+fn push_equation(text: &mut String, start: &str) -> Result<(), AllocError> {
+    text.push_str(start)?;
+    push_sum(text)?;
+    text.push_str(" = ")?;
+    push_sum(text)?;
+    text.push_str("\n")
+}
+
+// 4,096 inputs, 4,096 instructions, and predicates with nearly 4,096 operators each.
+fn long_text(alloc: Global) -> Result<String, AllocError> {
+    let mut text = String::new(alloc);
+    for k in 0..4096_u32 {
+        write!(&mut text, "in u64 n{k}\n")?;
+    }
+    for k in 0..4096_u32 {
+        write!(&mut text, "xor u64 n{} n{k} n{}\n", 4096 + k, 4095 + k)?;
+    }
+    for _ in 0..12 {
+        push_equation(&mut text, "assert rng ")?;
+        push_equation(&mut text, "assert alg ")?;
+    }
+    Ok(text)
+}
+
+#[test]
+fn programs_at_the_limits(rt: HostRuntime) -> Result<(), Fail> {
+    let alloc = rt.alloc();
+    let mut text = long_text(alloc)?;
+    text.push_str("end")?;
+    let found = outcome(alloc, parse(alloc, text.as_bytes())?)?;
+    assert_eq!(&rt; found.as_str(), "fine");
+    let mut text = long_text(alloc)?;
+    text.push_str("assert rng ")?;
+    push_sum(&mut text)?;
+    text.push_str(" = 0@u1\nend")?;
+    let found = outcome(alloc, parse(alloc, text.as_bytes())?)?;
+    assert_eq!(&rt; found.as_str(), "8217 mismatch");
+    Ok(())
+}
