@@ -1,0 +1,9 @@
+pub mod Bits
+pub mod Within
+pub mod Adders
+pub mod Chains
+pub mod Products
+pub mod Loops
+pub mod Rows
+pub mod Values
+pub mod Constants

@@ -1,0 +1,14 @@
+pub mod Parts
+pub mod Outcomes
+pub mod Values
+pub mod Rows
+pub mod ExactConditions
+pub mod RangeTerms
+pub mod RangePreds
+pub mod RangeParts
+pub mod PredParts
+pub mod OperandWords
+pub mod StepLaws
+pub mod CallFacts
+pub mod Forms
+pub mod Lines
