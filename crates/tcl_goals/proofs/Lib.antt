@@ -1,0 +1,10 @@
+pub mod GoalPlaces
+pub mod Numbers
+pub mod LemmaNumbers
+pub mod FirstBits
+pub mod FactsGood
+pub mod RunsAssign
+pub mod LeastClosed
+pub mod LongerLists
+pub mod PieceOrder
+pub mod PlanPieces

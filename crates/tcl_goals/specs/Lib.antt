@@ -1,0 +1,14 @@
+pub mod Numbers
+pub mod LemmaList
+pub mod Places
+pub mod Keys
+pub mod Order
+pub mod Holds
+pub mod Assignments
+pub mod Defaults
+pub mod Closure
+pub mod Slices
+pub mod Free
+pub mod Plans
+pub mod Remainder
+pub mod Laws
