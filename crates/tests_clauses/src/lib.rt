@@ -1,0 +1,9 @@
+//! Tests of the public calls of clauses, logs and circuits.
+#![tactic(auto)]
+
+#[cfg(test)]
+mod circuits;
+#[cfg(test)]
+mod clauses;
+#[cfg(test)]
+mod gates;

@@ -1,0 +1,13 @@
+//! Tests of the public calls of rings, polynomials, cofactors and reduction.
+#![tactic(auto)]
+
+#[cfg(test)]
+mod cofactors;
+#[cfg(test)]
+mod naming;
+#[cfg(test)]
+mod polynomials;
+#[cfg(test)]
+mod reduction;
+#[cfg(test)]
+mod rings;
