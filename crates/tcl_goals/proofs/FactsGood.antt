@@ -1,15 +1,14 @@
 -- Facts in order that hold give a correct program: by induction on the places of claims, since a fact rests on lines
 -- before its claim and on lemmas, which hold where all before their goals holds.
-use Rattle.std.proofs.Common.{◌≡◌, ℕ, zero, suc, ◌+◌, ◌<◌, ◌≤◌, ◌⊎◌, inl, inr, refl, sym, ◌∙◌, ap, subst, arith, ℤ, Bool, true, false, ◌&&◌, ◌||◌, List, [], ◌∷◌, length, Option, Some, None}
+use Rattle.std.proofs.Common.{◌≡◌, ℕ, zero, suc, ◌<◌, ◌≤◌, inl, inr, refl, sym, ◌∙◌, ap, subst, arith, ℤ, Bool, true, false, ◌||◌, List, [], length, Option, Some, None}
 use Rattle.std.specs.List.{slice_get, list_all}
-use Rattle.std.proofs.lemmas.Bool.{and_parts, and_from}
+use Rattle.std.proofs.lemmas.Bool.{and_parts}
 use Rattle.std.proofs.lemmas.Bool.Decides.{nat_tests}
 use Rattle.tcl_lang.specs.declared.pred.Line.{Line}
 use Rattle.tcl_lang.specs.Program.{VersionedProgram}
 use Rattle.tcl_lang.specs.Line.{is_precondition, is_assumption, is_goal, is_hypothesis}
 use Rattle.tcl_lang.specs.Run.{Fits, taken_types}
-use Rattle.tcl_lang.specs.Goal.{passes, is_precondition_at, is_assumption_at, is_goal_at, goals_before, goal_count, truth_at, MeetsPrecondition, KeepsAssumptions, MeetsGoals}
-use Rattle.tcl_lang.specs.Goal.{IsGoalAt}
+use Rattle.tcl_lang.specs.Goal.{passes, is_goal_at, goals_before, goal_count, MeetsPrecondition, KeepsAssumptions}
 use Rattle.tcl_lang.specs.Correct.{IsCorrect, IsCounterexample}
 use Rattle.tcl_lang.specs.Form.{end_store}
 use Rattle.tcl_list.proofs.Booleans.{or_cases, all_by_two}
@@ -25,7 +24,7 @@ use Rattle.tcl_goals.specs.Places.{goal_place}
 use Rattle.tcl_goals.specs.LemmaList.{lemma_of, next_number}
 use Rattle.tcl_goals.specs.Keys.{key_less, hyps_rise, line_key, lemma_key, found_key, hyp_key, claim_key}
 use Rattle.tcl_goals.specs.Order.{InOrder, has_hyp, is_before}
-use Rattle.tcl_goals.specs.Holds.{line_holds, cube_holds, clause_holds, lemma_holds, hyp_holds, claim_holds, FactHolds, MeetsBefore, IsSound, AreSound, IsGoalSound}
+use Rattle.tcl_goals.specs.Holds.{line_holds, cube_holds, lemma_holds, hyp_holds, claim_holds, FactHolds, MeetsBefore, IsSound, AreSound, IsGoalSound}
 use Rattle.tcl_goals.specs.Laws.{Shows}
 use Rattle.tcl_goals.proofs.GoalPlaces.{place_of_goal, goal_number_below}
 

@@ -1,5 +1,5 @@
 -- In a well formed program the variables that are defined before a place are the first.
-use Rattle.std.proofs.Common.{◌≡◌, ℕ, ◌≤◌, refl, sym, ◌∙◌, ap, nat_lt, Bool, true, ◌&&◌, List, [], ◌∷◌, length}
+use Rattle.std.proofs.Common.{◌≡◌, ℕ, ◌≤◌, refl, ◌∙◌, ap, ◌&&◌, List, [], ◌∷◌, length}
 use Rattle.std.specs.List.{slice_get, list_all}
 use Rattle.tcl_lang.specs.Program.{VersionedProgram}
 use Rattle.tcl_lang.specs.Limit.{definitions_before}

@@ -1,10 +1,10 @@
 -- A goal's number gives back its place.
-use Rattle.std.proofs.Common.{◌≡◌, ℕ, zero, suc, ◌+◌, ◌<◌, ◌≤◌, refl, sym, ◌∙◌, ap, arith, nat_lt, Bool, true, false, cond, List, [], ◌∷◌, length, take, Option, Some, None}
-use Rattle.std.specs.List.{slice_get, count_by}
+use Rattle.std.proofs.Common.{◌≡◌, ℕ, zero, suc, ◌+◌, ◌<◌, ◌≤◌, refl, sym, ◌∙◌, ap, arith, nat_lt, Bool, true, false, cond, List, [], ◌∷◌, length, take, Some}
+use Rattle.std.specs.List.{slice_get}
 use Rattle.std.proofs.lemmas.List.Sums.{sum_by-cons}
 use Rattle.tcl_lang.specs.declared.pred.Line.{Line}
 use Rattle.tcl_lang.specs.Line.{is_goal}
-use Rattle.tcl_lang.specs.Goal.{is_goal_at, goals_before, goal_count, IsGoalAt}
+use Rattle.tcl_lang.specs.Goal.{is_goal_at, goals_before, goal_count}
 use Rattle.tcl_lang.proofs.Correctness.{goal_line}
 use Rattle.tcl_lang.proofs.Runs.{one_if, goals_begin}
 use Rattle.std.proofs.lemmas.Bool.{ltb-true}

@@ -1,5 +1,5 @@
 -- A lemma under a greater number keeps that the numbers of a list rise.
-use Rattle.std.proofs.Common.{◌≡◌, ℕ, ◌+◌, ◌<◌, ◌≤◌, max, refl, arith, nat_lt, Bool, true, ◌&&◌, List, [], ◌∷◌, ◌++◌, map, Option, Some, None}
+use Rattle.std.proofs.Common.{◌≡◌, ℕ, ◌<◌, ◌≤◌, refl, arith, true, List, [], ◌∷◌, ◌++◌, map, Option, Some, None}
 use Rattle.std.proofs.lemmas.Bool.{and_parts, and_from, lt-ltb}
 use Rattle.tcl_goals.specs.declared.lemma.Lemma.{Lemma}
 use Rattle.tcl_goals.specs.declared.lemma.Numbered.{Numbered}

@@ -2,6 +2,7 @@ pub mod GoalPlaces
 pub mod Numbers
 pub mod LemmaNumbers
 pub mod FirstBits
+pub mod Marking
 pub mod FactsGood
 pub mod RunsAssign
 pub mod LeastClosed

@@ -1,5 +1,5 @@
 -- A fact in order for a list of lemmas that holds is so for every longer list with the same members.
-use Rattle.std.proofs.Common.{◌≡◌, ℕ, ◌+◌, ◌<◌, ◌≤◌, max, nat_eq, eqb-true, ◌++◌, refl, sym, ◌∙◌, ap, subst, arith, ℤ, Bool, true, false, ◌&&◌, List, [], ◌∷◌, map, length, Option, Some, None}
+use Rattle.std.proofs.Common.{◌≡◌, ℕ, ◌<◌, ◌≤◌, nat_eq, eqb-true, ◌++◌, refl, sym, ◌∙◌, ap, arith, Bool, true, false, ◌&&◌, List, [], ◌∷◌, Option, Some, None}
 use Rattle.std.specs.Option.{is_some}
 use Rattle.std.specs.List.{list_all}
 use Rattle.std.proofs.lemmas.Bool.{and_parts, and_from}
@@ -17,7 +17,7 @@ use Rattle.tcl_goals.specs.declared.lemma.Numbered.{Numbered}
 use Rattle.tcl_goals.specs.Places.{goal_place}
 use Rattle.tcl_goals.specs.LemmaList.{lemma_of, next_number, Extends}
 use Rattle.tcl_goals.specs.Keys.{key_less, found_key, hyp_key, is_key_above, hyps_after, hyps_rise, claim_key}
-use Rattle.tcl_goals.specs.Order.{InOrder, has_hyp, has_hyps, is_before}
+use Rattle.tcl_goals.specs.Order.{InOrder, has_hyp, is_before}
 use Rattle.tcl_lang.specs.Form.{end_store}
 use Rattle.tcl_goals.specs.Holds.{lemma_holds, hyp_holds, FactHolds}
 use Rattle.tcl_list.proofs.Booleans.{all_by_two, if_yes, if_no}

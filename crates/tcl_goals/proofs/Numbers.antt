@@ -1,11 +1,9 @@
 -- One number further among those that pass a test.
-use Rattle.std.proofs.Common.{◌≡◌, ℕ, zero, suc, ◌+◌, ◌∙◌, refl, sym, ap, add-one, Bool, true, false, List, [], ◌∷◌, ◌++◌, map, Some}
-use Rattle.std.specs.Prelude.{if◌then◌else◌}
+use Rattle.std.proofs.Common.{◌≡◌, ℕ, suc, ◌+◌, ◌∙◌, refl, ap, add-one, Bool, true, false, List, [], ◌∷◌, ◌++◌, Some}
 use Rattle.std.specs.List.{slice_get}
 use Rattle.tcl_list.proofs.Booleans.{if_yes, if_no}
 use Rattle.tcl_lang.specs.declared.pred.Line.{Line}
 use Rattle.tcl_lang.specs.Goal.{passes}
-use Rattle.tcl_goals.specs.declared.fact.Hyp.{Hyp}
 use Rattle.tcl_goals.specs.declared.fact.Hyp.TheVariants as hyp
 use Rattle.tcl_goals.specs.declared.cuts.Starts.{Starts}
 use Rattle.tcl_goals.specs.Numbers.{those_below}
@@ -24,6 +22,13 @@ those_yes test n e = if_yes (test n) (those_below test n ++ n ∷ []) (those_bel
 pub those_no : (test : ℕ → Bool) (n : ℕ) → test n ≡ false → those_below test (suc n) ≡ those_below test n
 unfolding those_below
 those_no test n e = if_no (test n) (those_below test n ++ n ∷ []) (those_below test n) e
+
+-- the same where one is added to the end
+pub next_yes : (test : ℕ → Bool) (n : ℕ) → test n ≡ true → those_below test (n + 1) ≡ those_below test n ++ n ∷ []
+next_yes test n e = ap (those_below test) (add-one n) ∙ those_yes test n e
+
+pub next_no : (test : ℕ → Bool) (n : ℕ) → test n ≡ false → those_below test (n + 1) ≡ those_below test n
+next_no test n e = ap (those_below test) (add-one n) ∙ those_no test n e
 
 -- the same for lines as hypotheses
 line_hyps_append : (ns : List ℕ) (n : ℕ) → line_hyps (ns ++ n ∷ []) ≡ line_hyps ns ++ hyp.Line n ∷ []

@@ -1,13 +1,13 @@
 -- The facts of both routes of a goal are in order, and so is that of a piece, with its cube.
-use Rattle.std.proofs.Common.{◌≡◌, ◌⊎◌, inl, inr, ℕ, zero, suc, ◌+◌, ◌^◌, ◌<◌, ◌≤◌, refl, sym, ◌∙◌, ap, subst, arith, nat_eq, nat_lt, nat_le, eqb-true, add-one, Bool, true, false, not, ◌&&◌, ◌||◌, if◌then◌else◌, List, [], ◌∷◌, ◌++◌, length, map, take, flat_map, Option, Some, None}
+use Rattle.std.proofs.Common.{◌≡◌, ◌⊎◌, inl, inr, ℕ, zero, suc, ◌<◌, ◌≤◌, refl, sym, ◌∙◌, ap, subst, arith, nat_eq, eqb-true, Bool, true, false, not, ◌&&◌, ◌||◌, List, [], ◌∷◌, ◌++◌, length, map, take, flat_map, Option, Some, None}
 use Rattle.std.specs.List.{slice_get, list_all, list_any}
-use Rattle.std.proofs.lemmas.Bool.{and_parts, and_from, lt-ltb, ltb-true, cases_lt, cases_eq}
+use Rattle.std.proofs.lemmas.Bool.{and_parts, and_from, lt-ltb}
 use Rattle.tcl_list.proofs.Booleans.{or_cases, or_left, or_right, cond_cases}
 use Rattle.tcl_lang.specs.declared.pred.Line.{Line}
 use Rattle.tcl_lang.specs.declared.variable.Variable.{Variable}
 use Rattle.tcl_lang.specs.Program.{VersionedProgram}
 use Rattle.tcl_lang.specs.Line.{is_hypothesis}
-use Rattle.tcl_lang.specs.Goal.{goal_count, passes}
+use Rattle.tcl_lang.specs.Goal.{passes}
 use Rattle.tcl_lang.specs.Names.{used_names, defined_names}
 use Rattle.tcl_lang.specs.Defined.{is_among, is_defined_before}
 use Rattle.tcl_lang.specs.Form.{IsWellFormed}
@@ -25,13 +25,13 @@ use Rattle.tcl_goals.specs.declared.piece.Route.{Route}
 use Rattle.tcl_goals.specs.declared.piece.Route.TheVariants as route
 use Rattle.tcl_goals.specs.declared.piece.Piece.{Piece}
 use Rattle.tcl_goals.specs.Numbers.{those_below, is_above, rise_after}
-use Rattle.tcl_goals.specs.Places.{goal_place, has_goal, is_step}
+use Rattle.tcl_goals.specs.Places.{goal_place, has_goal}
 use Rattle.std.proofs.lemmas.Bool.Decides.{nat_tests}
-use Rattle.tcl_goals.specs.Keys.{key_less, line_key, hyp_key, is_key_above, hyps_after, claim_key, claim_place}
-use Rattle.tcl_goals.specs.Order.{InOrder, has_hyp, has_hyps, is_before, is_step_before, is_bit_before, has_bit, same_bit, bits_differ}
+use Rattle.tcl_goals.specs.Keys.{key_less, line_key, is_key_above, hyps_after, claim_place}
+use Rattle.tcl_goals.specs.Order.{InOrder, has_hyp, is_before, is_step_before, is_bit_before, has_bit, same_bit, bits_differ}
 use Rattle.tcl_goals.specs.Defaults.{is_default, is_default_at, line_hyps}
 use Rattle.tcl_goals.specs.Slices.{read_in, defined_in, named_in, is_hypothesis_at, is_step_at, is_default_step, is_sliced_hyp, is_sliced_step, whole_fact, cut_fact, route_fact}
-use Rattle.tcl_goals.specs.Free.{bit_variables, hyp_variables, fact_variables, is_free, free_variables, width_in, bits_down, bits_of, free_bits}
+use Rattle.tcl_goals.specs.Free.{hyp_variables, fact_variables, is_free, free_variables, width_in, bits_down, bits_of, free_bits}
 use Rattle.tcl_goals.specs.Plans.{IsPiece, bit_at, piece_fact}
 
 -- rising numbers from one up to another that pass a test

@@ -1,12 +1,11 @@
 -- Each piece of a plan is of a goal that exists, and its cube gives values to the first free bits of its fact.
-use Rattle.std.proofs.Common.{◌≡◌, ℕ, zero, suc, ◌+◌, ◌/◌, ◌%◌, ◌^◌, ◌<◌, ◌≤◌, refl, sym, ◌∙◌, ap, subst, arith, Bool, true, false, if◌then◌else◌, List, [], ◌∷◌, ◌++◌, length, map, take, flat_map, Option, Some, None}
+use Rattle.std.proofs.Common.{◌≡◌, ℕ, zero, suc, ◌+◌, ◌^◌, ◌<◌, refl, sym, ◌∙◌, ap, subst, arith, true, List, [], ◌∷◌, ◌++◌, length, map, take, flat_map, Some, None}
 use Rattle.std.specs.List.{slice_get}
 use Rattle.std.proofs.lemmas.Bool.{lt-ltb}
 use Rattle.tcl_list.proofs.Booleans.{cond_cases}
 use Rattle.tcl_lang.specs.Program.{VersionedProgram}
 use Rattle.tcl_lang.specs.Goal.{goal_count}
 use Rattle.tcl_goals.specs.declared.fact.Bit.{Bit}
-use Rattle.tcl_goals.specs.declared.fact.BitLit.{BitLit}
 use Rattle.tcl_goals.specs.declared.piece.Route.{Route}
 use Rattle.tcl_goals.specs.declared.piece.Route.TheVariants as route
 use Rattle.tcl_goals.specs.declared.piece.Piece.{Piece}

@@ -1,13 +1,13 @@
 -- The trace of a run is an assignment of each fact.
-use Rattle.std.proofs.Common.{◌≡◌, ℕ, refl, sym, ◌∙◌, ap, subst, ℤ, Bool, true, ◌&&◌, List, [], ◌∷◌, length}
-use Rattle.std.specs.List.{slice_get, list_all}
+use Rattle.std.proofs.Common.{◌≡◌, sym, ◌∙◌, ap, subst, ℤ, true, List}
+use Rattle.std.specs.List.{slice_get}
 use Rattle.tcl_list.proofs.Booleans.{all_by_two}
 use Rattle.tcl_lang.specs.declared.ty.Word.{Word}
 use Rattle.tcl_lang.specs.Program.{VersionedProgram}
 use Rattle.tcl_lang.specs.Run.{Fits, taken_types}
 use Rattle.tcl_lang.specs.Executed.{IsExecutedAt}
-use Rattle.tcl_lang.specs.Values.{words_of, trace_of, truth_of}
-use Rattle.tcl_lang.specs.Form.{IsWellFormed, end_store}
+use Rattle.tcl_lang.specs.Values.{trace_of}
+use Rattle.tcl_lang.specs.Form.{IsWellFormed}
 use Rattle.tcl_lang.proofs.FormEnds.{end_executed}
 use Rattle.tcl_lang.proofs.ValueSteps.{trace_words, trace_values, trace_truth}
 use Rattle.tcl_goals.specs.declared.fact.Hyp.{Hyp}
@@ -19,7 +19,7 @@ use Rattle.tcl_goals.specs.declared.lemma.Numbered.{Numbered}
 use Rattle.tcl_goals.specs.Places.{goal_place}
 use Rattle.tcl_goals.specs.LemmaList.{lemma_of}
 use Rattle.tcl_goals.specs.Holds.{cube_holds, clause_holds, lemma_holds, hyp_holds, claim_holds, FactHolds}
-use Rattle.tcl_goals.specs.Assignments.{Assigns, hyp_of, cube_of, claim_of, HoldsOfAll}
+use Rattle.tcl_goals.specs.Assignments.{hyp_of, claim_of, HoldsOfAll}
 use Rattle.tcl_goals.specs.Laws.{IsAssigned}
 
 -- a run assigns

@@ -1,5 +1,5 @@
 -- Cuts, and what a goal rests on by default. A line cuts the algebraic hypotheses, the others, or both.
-use Rattle.std.specs.Prelude.{ℕ, zero, suc, ◌+◌, min, nat_le, Bool, true, false, not, ◌&&◌, if◌then◌else◌, List, map, slice_get, Option, Some, None}
+use Rattle.std.specs.Prelude.{ℕ, zero, suc, ◌+◌, min, nat_le, Bool, false, not, ◌&&◌, if◌then◌else◌, List, map, slice_get, Option, Some, None}
 use Rattle.tcl_lang.specs.declared.pred.Line.{Line}
 use Rattle.tcl_lang.specs.Line.{is_algebraic, cuts_algebraic, cuts_range, is_hypothesis}
 use Rattle.tcl_lang.specs.Goal.{passes}

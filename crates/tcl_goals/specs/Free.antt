@@ -1,5 +1,5 @@
 -- The free variables of a fact and their bits.
-use Rattle.std.specs.Prelude.{ℕ, zero, suc, Bool, true, false, not, ◌&&◌, if◌then◌else◌, List, [], ◌∷◌, ◌++◌, length, map, flat_map, slice_get, Option, Some, None}
+use Rattle.std.specs.Prelude.{ℕ, zero, suc, Bool, not, ◌&&◌, List, [], ◌∷◌, ◌++◌, length, map, flat_map, slice_get, Option, Some, None}
 use Rattle.tcl_lang.specs.declared.instr.Op.{Op}
 use Rattle.tcl_lang.specs.declared.instr.Op.TheVariants as op
 use Rattle.tcl_lang.specs.declared.pred.Line.{Line}
@@ -15,11 +15,17 @@ use Rattle.tcl_goals.specs.declared.fact.Claim.{Claim}
 use Rattle.tcl_goals.specs.declared.fact.Claim.TheVariants as claim
 use Rattle.tcl_goals.specs.declared.fact.Fact.{Fact}
 use Rattle.tcl_goals.specs.declared.lemma.Lemma.{Lemma}
+use Rattle.tcl_goals.specs.declared.marks.Marks.{Marks}
+use Rattle.tcl_goals.specs.Closure.{mark_one}
 use Rattle.tcl_goals.specs.declared.lemma.Numbered.{Numbered}
 use Rattle.tcl_goals.specs.Numbers.{those_below}
 use Rattle.tcl_goals.specs.Places.{goal_place}
 use Rattle.tcl_goals.specs.LemmaList.{lemma_of}
 use Rattle.tcl_goals.specs.Slices.{read_in, named_in}
+
+-- a set with one more variable
+abbrev pub marked : Marks → ℕ → Marks
+marked m v = record { marks = mark_one m.marks v }
 
 -- the variables of bits
 abbrev pub bit_variables : List BitLit → List ℕ

@@ -1,5 +1,5 @@
 -- Places of goals and of instructions.
-use Rattle.std.specs.Prelude.{ℕ, zero, suc, ◌+◌, Bool, true, false, if◌then◌else◌, nat_lt, List, [], ◌∷◌, Option, Some, None, is_some}
+use Rattle.std.specs.Prelude.{ℕ, zero, suc, ◌+◌, Bool, true, false, if◌then◌else◌, nat_lt, List, [], ◌∷◌, is_some}
 use Rattle.tcl_lang.specs.declared.pred.Line.{Line}
 use Rattle.tcl_lang.specs.declared.pred.Line.TheVariants as line
 use Rattle.tcl_lang.specs.Line.{is_goal, instruction_of}

@@ -1,5 +1,5 @@
 -- The facts of the two routes of a goal: what its slice holds, and all that stands before it.
-use Rattle.std.specs.Prelude.{ℕ, nat_le, Bool, true, false, ◌&&◌, List, [], ◌++◌, length, map, replicate, slice_get, Option, Some, None}
+use Rattle.std.specs.Prelude.{ℕ, nat_le, Bool, false, ◌&&◌, List, [], ◌++◌, length, map, replicate, slice_get, Option, Some, None}
 use Rattle.std.specs.List.{list_any}
 use Rattle.tcl_lang.specs.declared.pred.Line.{Line}
 use Rattle.tcl_lang.specs.Program.{VersionedProgram}

@@ -149,3 +149,15 @@ impl Same for BitLit {
         *self == *other
     }
 }
+
+impl Copies for Bit {
+    fn copy_in(&self, _alloc: Global) -> Result<Self, AllocError> {
+        Ok(*self)
+    }
+}
+
+impl Same for Bit {
+    fn same(&self, other: &Self) -> bool {
+        *self == *other
+    }
+}
