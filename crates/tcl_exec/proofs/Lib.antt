@@ -1,0 +1,4 @@
+pub mod Writing
+pub mod Fitting
+pub mod Stepping
+pub mod TrialValues

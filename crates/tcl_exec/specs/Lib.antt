@@ -1,0 +1,4 @@
+pub mod Trial
+pub mod Fitting
+pub mod Passing
+pub mod Written
