@@ -1,5 +1,5 @@
 -- The lines that are left and the values that are left.
-use Rattle.std.proofs.Common.{◌≡◌, ◌↔◌, ℕ, zero, suc, ◌+◌, ◌<◌, ◌≤◌, ◌≤ℤ◌, ◌<ℤ◌, refl, sym, ◌∙◌, ap, subst, arith, add-one, ℤ, pos, nat_eq, Bool, true, false, ◌&&◌, List, [], ◌∷◌, length, drop, get_or, filter_map, Option, Some, None}
+use Rattle.std.proofs.Common.{◌≡◌, ◌↔◌, ℕ, zero, suc, ◌+◌, ◌<◌, ◌≤◌, ◌≤ℤ◌, ◌<ℤ◌, refl, sym, ◌∙◌, ap, arith, add-one, ℤ, nat_eq, Bool, true, false, ◌&&◌, List, [], ◌∷◌, length, drop, get_or, Option, Some, None}
 use Rattle.std.specs.Prelude.{IsTrue, int_le, int_lt}
 use Rattle.std.specs.List.{slice_get, list_all, cons_option}
 use Rattle.std.specs.Option.{IfSome}
@@ -9,15 +9,14 @@ use Rattle.std.proofs.lemmas.Int.{ints}
 use Rattle.std.proofs.Math.Seq.{drop-cons}
 use Rattle.tcl_num.specs.Range.{least_value, values_end}
 use Rattle.tcl_lang.specs.declared.ty.Ty.{Ty}
-use Rattle.tcl_lang.specs.declared.instr.Instr.{Instr}
 use Rattle.tcl_lang.specs.declared.instr.Op.{Op}
 use Rattle.tcl_lang.specs.declared.instr.Op.TheVariants.{Mov, Add, Adds, Adc, Adcs, Sub, Subb, Sbb, Sbbs, Mul, Mull, Mulj, Shl, Split, Join, Cast, Vpc, Cmov, And, Or, Xor, Not, Nondet}
 use Rattle.tcl_lang.specs.declared.pred.Line.{Line}
 use Rattle.tcl_lang.specs.declared.pred.Line.TheVariants.{Input, Pre, Step, Assert, Assume, Cut, Post}
-use Rattle.tcl_lang.specs.Types.{IsTy, InType, is_ty, is_in_type}
+use Rattle.tcl_lang.specs.Types.{IsTy, InType, is_in_type}
 use Rattle.tcl_lang.specs.Line.{taken_type, choice_type}
 use Rattle.tcl_lang.specs.Run.{Fits, taken_types}
-use Rattle.tcl_lang.specs.Shape.{is_line, is_instruction}
+use Rattle.tcl_lang.specs.Shape.{is_line}
 use Rattle.tcl_lang.proofs.TypedStores.{is_ty_sound, is_in_type_sound}
 use Rattle.tcl_lang.proofs.TypedRuns.{instruction_shape}
 use Rattle.tcl_exec.specs.Fitting.{is_fitting, taken_in}

@@ -2,3 +2,9 @@ pub mod Writing
 pub mod Fitting
 pub mod Stepping
 pub mod TrialValues
+pub mod ResidueSums
+pub mod TermValues
+pub mod WordsOfValues
+pub mod PlainWords
+pub mod SoundTerms
+pub mod Tellable

@@ -1,5 +1,5 @@
 -- Each line of a versioned program can be gone through at the values of a run, and computed anew at any values in their types.
-use Rattle.std.proofs.Common.{◌≡◌, ℕ, refl, sym, ◌∙◌, ap, subst, ℤ, pos, List, [], ◌∷◌, length, get_or, Option, Some, None}
+use Rattle.std.proofs.Common.{◌≡◌, ℕ, refl, subst, ℤ, pos, List, length, get_or, Option, Some, None}
 use Rattle.std.specs.List.{slice_get}
 use Rattle.tcl_lang.specs.declared.ty.Ty.{Ty}
 use Rattle.tcl_lang.specs.declared.instr.Op.{Op}
@@ -9,11 +9,11 @@ use Rattle.tcl_lang.specs.declared.pred.Line.{Line}
 use Rattle.tcl_lang.specs.declared.pred.Line.TheVariants.{Input, Pre, Step, Assert, Assume, Cut, Post}
 use Rattle.tcl_lang.specs.Program.{VersionedProgram}
 use Rattle.tcl_lang.specs.Types.{InType}
-use Rattle.tcl_lang.specs.Line.{choice_type, values_of}
-use Rattle.tcl_lang.specs.Instruction.{nth}
-use Rattle.tcl_lang.specs.Operands.{IsExecutable, HasOperands}
+use Rattle.tcl_lang.specs.Line.{choice_type}
+use Rattle.tcl_lang.specs.Exactness.{is_exact}
+use Rattle.tcl_lang.specs.Operands.{IsExecutable}
 use Rattle.tcl_lang.specs.Run.{Fits, taken_types, taken_before, operands_of}
-use Rattle.tcl_lang.specs.Values.{AreValues, words_of, operand_values, recomputed_at, values_before, trace_of}
+use Rattle.tcl_lang.specs.Values.{AreValues, recomputed_at, values_before, trace_of}
 use Rattle.tcl_lang.specs.Form.{IsWellFormed}
 use Rattle.tcl_lang.proofs.FormFacts.{zero_in}
 use Rattle.tcl_lang.proofs.TypedRuns.{taken_fits}
@@ -74,3 +74,29 @@ run_passes f input k (Post p) w fits at = tt
 pub trace_ends : (f : VersionedProgram) (input : List ℤ) → trace_of f input ≡ values_before (length f.variables) f.lines input (length f.lines)
 unfolding trace_of
 trace_ends f input = refl
+
+-- exactness does not look at the choice
+pub exact_choice : (op : Op) (T : Ty) (n : ℕ) (values : List ℤ) (choice : ℤ) → is_exact op T n (operands_of op values choice) ≡ is_exact op T n values
+exact_choice Mov T n values choice = refl
+exact_choice Add T n values choice = refl
+exact_choice Adds T n values choice = refl
+exact_choice Adc T n values choice = refl
+exact_choice Adcs T n values choice = refl
+exact_choice Sub T n values choice = refl
+exact_choice Subb T n values choice = refl
+exact_choice Sbb T n values choice = refl
+exact_choice Sbbs T n values choice = refl
+exact_choice Mul T n values choice = refl
+exact_choice Mull T n values choice = refl
+exact_choice Mulj T n values choice = refl
+exact_choice Shl T n values choice = refl
+exact_choice Split T n values choice = refl
+exact_choice Join T n values choice = refl
+exact_choice Cast T n values choice = refl
+exact_choice Vpc T n values choice = refl
+exact_choice Cmov T n values choice = refl
+exact_choice And T n values choice = refl
+exact_choice Or T n values choice = refl
+exact_choice Xor T n values choice = refl
+exact_choice Not T n values choice = refl
+exact_choice Nondet T n values choice = refl

@@ -1,10 +1,10 @@
 -- The inputs that are tried fit, and what is left of them after each line.
-use Rattle.std.proofs.Common.{◌≡◌, ℕ, zero, suc, ◌+◌, ◌<◌, ◌≤◌, refl, sym, ◌∙◌, ap, subst, arith, ℤ, pos, neg_ℤ, ◌-ℤ◌, ◌≤ℤ◌, ◌<ℤ◌, Bool, true, false, cond, nat_eq, List, [], ◌∷◌, ◌++◌, length, drop, Option, Some, None}
+use Rattle.std.proofs.Common.{◌≡◌, ℕ, ◌+◌, ◌<◌, ◌≤◌, ap, arith, ℤ, pos, ◌-ℤ◌, ◌≤ℤ◌, ◌<ℤ◌, Bool, true, false, cond, nat_eq, List, [], ◌∷◌, length, drop, Option, Some, None}
 use Rattle.std.specs.List.{slice_get, list_all, cons_option}
 use Rattle.std.specs.Option.{IfSome}
 use Rattle.std.proofs.lemmas.Bool.{and_parts}
 use Rattle.std.proofs.lemmas.Int.{ints}
-use Rattle.tcl_num.specs.Range.{least_value, values_end, InRange}
+use Rattle.tcl_num.specs.Range.{least_value, values_end}
 use Rattle.tcl_num.proofs.WrappedValues.{wrapped_in_range}
 use Rattle.tcl_lang.specs.declared.ty.Ty.{Ty}
 use Rattle.tcl_lang.specs.declared.pred.Line.{Line}
@@ -13,7 +13,7 @@ use Rattle.tcl_lang.specs.Line.{taken_type}
 use Rattle.tcl_lang.specs.Run.{Fits, taken_types}
 use Rattle.tcl_lang.specs.Shape.{is_line}
 use Rattle.tcl_exec.specs.Fitting.{taken_in}
-use Rattle.tcl_exec.specs.Trial.{next_state, trial_value, trial_from, trial_of}
+use Rattle.tcl_exec.specs.Trial.{next_state, trial_value, trial_from}
 use Rattle.tcl_exec.proofs.Fitting.{taken_words, types_given, types_end}
 use Rattle.tcl_exec.proofs.Stepping.{zero_typed}
 

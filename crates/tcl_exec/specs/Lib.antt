@@ -2,3 +2,8 @@ pub mod Trial
 pub mod Fitting
 pub mod Passing
 pub mod Written
+pub mod Given
+pub mod Residue
+pub mod Plain
+pub mod Sound
+pub mod Tellable

@@ -2,13 +2,14 @@
 
 ghost use Rattle.std.specs.Prelude.{◌≡◌, Some, pos, slice_get};
 ghost use Rattle.tcl_lang.specs.Instruction.{nth};
+ghost use Rattle.tcl_lang.specs.Exactness as exactness;
 ghost use Rattle.tcl_lang.specs.ResultList.{listed};
 ghost use Rattle.tcl_lang.specs.Run.{operands_of};
 ghost use Rattle.tcl_lang.specs.Values as words;
 ghost use Rattle.tcl_exec.specs.Passing.{CanBeExecuted, CanBePassed};
 ghost use Rattle.tcl_exec.specs.Written.{set_named};
 
-use tcl_lang::{Atom, Instr, Line, Op, Results, Ssa, results};
+use tcl_lang::{Atom, Instr, Line, Op, Results, Ssa, is_exact_at, results};
 
 /// Computes the instruction at `place` anew: its results get the values that it computes, all else stays. A `nondet`,
 /// whose result is free, and a place without an instruction change nothing. The values stay in their types.
@@ -67,6 +68,17 @@ fn execute(values: &mut [i128], instr: &Instr, choice: i128)
     let c = operand(values, instr, choice, 2);
     let computed = results(instr.op, instr.ty, instr.amount, a, b, c);
     write(values, instr.outs.as_slice(), computed);
+}
+
+/// Whether the exactness condition of the instruction holds, or there is none.
+pub(crate) fn is_exact(values: &[i128], instr: &Instr) -> bool
+    requires { CanBeExecuted values.now instr.now (pos 0) }
+    ensures { result ≡ exactness.is_exact instr.now.op instr.now.ty instr.now.amount (words.operand_values values.now instr.now.args) }
+{
+    let a = operand(values, instr, 0, 0);
+    let b = operand(values, instr, 0, 1);
+    let c = operand(values, instr, 0, 2);
+    is_exact_at(instr.op, instr.ty, instr.amount, a, b, c)
 }
 
 /// The value of a variable; 0 where there is no such variable.

@@ -1,5 +1,5 @@
 -- Past a value that is not there or not of its type nothing fits; else one line and one value further.
-use Rattle.std.proofs.Common.{rules, ◌≡◌, ◌+◌, ◌<◌, ◌≤◌, ℤ, pos, Bool, true, false, ◌&&◌, refl, sym, ap, ◌∙◌, arith, length, drop, get_or, Some, None, Option}
+use Rattle.std.proofs.Common.{rules, ◌≡◌, ◌+◌, ◌<◌, ◌≤◌, pos, true, false, sym, ap, ◌∙◌, arith, length, drop, get_or, Some, None}
 use Rattle.std.specs.List.{slice_get}
 use Rattle.tcl_lang.specs.Types.{is_in_type}
 use Rattle.tcl_lang.specs.Run.{taken_types}

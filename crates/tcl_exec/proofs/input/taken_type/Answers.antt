@@ -1,5 +1,5 @@
 -- A line takes a value of a type of words.
-use Rattle.std.proofs.Common.{◌≡◌, sym, subst, Option}
+use Rattle.std.proofs.Common.{sym, subst, Option}
 use Rattle.std.specs.Option.{IfSome}
 use Rattle.tcl_lang.specs.declared.ty.Ty.{Ty}
 use Rattle.tcl_lang.specs.Types.{IsTy}

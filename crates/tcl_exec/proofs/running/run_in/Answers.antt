@@ -1,5 +1,5 @@
 -- One line further: the next values and the number of values taken.
-use Rattle.std.proofs.Common.{rules, ◌≡◌, ℕ, ◌+◌, refl, sym, ap, ◌∙◌, subst, arith, ℤ, pos, Bool, true, false, length, get_or, Some, to_z, of_z}
+use Rattle.std.proofs.Common.{rules, ◌≡◌, ℕ, ◌+◌, sym, ap, ◌∙◌, subst, arith, ℤ, pos, Bool, true, false, length, get_or, Some, to_z, of_z}
 use Rattle.std.specs.Int.{w128}
 use Rattle.std.specs.Option.{is_some}
 use Rattle.std.specs.List.{slice_get}

@@ -1,5 +1,5 @@
 -- The line at the place can be gone through, and values stay in their types.
-use Rattle.std.proofs.Common.{◌≡◌, refl, ℤ, pos, sym, ap, ◌∙◌, subst, length, List, Option, Some, None}
+use Rattle.std.proofs.Common.{◌≡◌, refl, ℤ, sym, ap, ◌∙◌, subst, length, List, Option, Some, None}
 use Rattle.std.specs.List.{slice_get}
 use Rattle.std.proofs.lemmas.Option.{slice_get_read, slice_get_past}
 use Rattle.tcl_lang.specs.declared.pred.Line.{Line}

@@ -1,0 +1,14 @@
+pub mod Ranges
+pub mod RowsHold
+pub mod Narrows
+pub mod Following
+pub mod MachineEnds
+pub mod Outs
+pub mod Within
+pub mod Stepping
+pub mod LineWords
+pub mod Enclosing
+pub mod RowsFit
+pub mod ResultsTyped
+pub mod Limited
+pub mod Passing

@@ -1,0 +1,9 @@
+pub mod Intervals
+pub mod Rows
+pub mod RowList
+pub mod Conditions
+pub mod Narrowing
+pub mod Bounds
+pub mod Limits
+pub mod Follows
+pub mod Encloses
