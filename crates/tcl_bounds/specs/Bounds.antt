@@ -60,6 +60,7 @@ bounds_past narrow (Some l) bounds = of_instruction narrow (instruction_of l) bo
     of_instruction narrow None bounds = bounds
     of_instruction narrow (Some i) bounds = bounds_after narrow bounds i
 
+-- the same at the line of place k
 abbrev pub pass_line : (ℕ → Interval → Interval) → List Line → List Interval → ℕ → List Interval
 pass_line narrow lines bounds k = bounds_past narrow (slice_get lines k) bounds
 

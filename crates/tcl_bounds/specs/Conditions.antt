@@ -22,11 +22,12 @@ use Rattle.tcl_bounds.specs.Intervals.{is_within, is_empty}
 use Rattle.tcl_bounds.specs.Narrowing.{atom_of}
 use Rattle.tcl_bounds.specs.Bounds.{operand_interval}
 
--- both ends are values of words; of magnitude at most 2 ^ 63
+-- both ends are values of words
 pub record HasWordEnds (i : Interval) : Type 0 where
   pub least : IsWordValue i.least
   pub greatest : IsWordValue i.greatest
 
+-- both ends are of magnitude at most 2 ^ 63
 pub record HasSmallEnds (i : Interval) : Type 0 where
   pub least : unsigned_abs i.least ≤ 2 ^ 63
   pub greatest : unsigned_abs i.greatest ≤ 2 ^ 63
@@ -71,19 +72,23 @@ is_word_atom None = true
 is_word_atom (Some (Var v)) = true
 is_word_atom (Some (Lit T n)) = may_stand None n
 
+-- the literals of a range predicate
 abbrev pub literals_step : RngPred-F Bool → Bool
 literals_step (pred_layer.Cmp op t u) = is_word_atom (atom_of t) && is_word_atom (atom_of u)
 literals_step (pred_layer.Both p q) = p && q
 literals_step _ = true
 
+-- all literals of a range predicate are such
 abbrev pub has_word_literals : RngPred → Bool
 has_word_literals p = fold-RngPred Bool literals_step p
 
+-- the literals of a predicate
 abbrev pub predicate_has_words : Option Pred → Bool
 predicate_has_words None = true
 predicate_has_words (Some (Alg p)) = true
 predicate_has_words (Some (Rng p)) = has_word_literals p
 
+-- the literals of a line
 abbrev pub line_has_words : Option Line → Bool
 line_has_words None = true
 line_has_words (Some l) = predicate_has_words (predicate_of l)
@@ -92,16 +97,18 @@ line_has_words (Some l) = predicate_has_words (predicate_of l)
 abbrev pub LinesHaveWords : List Line → Type 0
 LinesHaveWords lines = (k : ℕ) → line_has_words (slice_get lines k) ≡ true
 
--- the exactness condition of the instruction, and the goal of the line, can be looked at
+-- the exactness condition of the instruction can be looked at
 abbrev pub CanBeExact : List Interval → Instr → Type 0
 CanBeExact bounds i =
     has_condition i.op ≡ true →
     CanTake i.op i.ty i.amount (operand_interval bounds i.args 0) (operand_interval bounds i.args 1) (operand_interval bounds i.args 2)
 
+-- the goal of a line can be looked at
 abbrev pub CanFollow : List Interval → Line → Type 0
 CanFollow bounds (Step i) = CanBeExact bounds i
 CanFollow bounds _ = Unit {0}
 
+-- the line can be gone through
 abbrev pub CanPassLine : List Interval → Line → Type 0
 CanPassLine bounds (Step i) = CanStep bounds i
 CanPassLine bounds _ = Unit {0}

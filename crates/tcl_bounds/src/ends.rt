@@ -14,12 +14,14 @@ use crate::interval::Interval;
 use tcl_lang::Ty;
 use tcl_num::{least_value, power_of_two, values_end};
 
+/// Whether no integer lies in the interval.
 pub(crate) fn is_empty(i: Interval) -> bool
     ensures { result ≡ intervals.is_empty i }
 {
     i.greatest < i.least
 }
 
+/// The values of a type.
 pub(crate) fn whole(ty: Ty) -> Interval
     requires { IsTy ty }
     ensures { result ≡ intervals.whole ty }
@@ -30,6 +32,7 @@ pub(crate) fn whole(ty: Ty) -> Interval
     }
 }
 
+/// Whether both ends are values of the type.
 pub(crate) fn is_within(ty: Ty, i: Interval) -> bool
     requires { IsTy ty }
     ensures { result ≡ intervals.is_within ty i }
@@ -37,6 +40,7 @@ pub(crate) fn is_within(ty: Ty, i: Interval) -> bool
     least_value(ty.signed, ty.width) <= i.least && i.greatest < values_end(ty.signed, ty.width)
 }
 
+/// The interval, where both ends are values of the type.
 pub(crate) fn if_within(ty: Ty, i: Interval) -> Option<Interval>
     requires { IsTy ty }
     ensures { result ≡ rows.if_within ty i }
@@ -44,6 +48,7 @@ pub(crate) fn if_within(ty: Ty, i: Interval) -> Option<Interval>
     if is_within(ty, i) { Some(i) } else { None }
 }
 
+/// What lies in both.
 pub(crate) fn meet(i: Interval, j: Interval) -> Interval
     ensures { result ≡ intervals.meet i j }
 {
@@ -53,6 +58,7 @@ pub(crate) fn meet(i: Interval, j: Interval) -> Interval
     }
 }
 
+/// From the least to the greatest end of the two.
 pub(crate) fn hull(i: Interval, j: Interval) -> Interval
     ensures { result ≡ intervals.hull i j }
 {
@@ -100,6 +106,7 @@ fn difference_three(a: i128, b: i128, c: i128) -> i128
     a - b - c
 }
 
+/// The sums of two intervals.
 pub(crate) fn sum_of(i: Interval, j: Interval) -> Interval
     requires first { HasWordEnds i }
     requires second { HasWordEnds j }
@@ -111,6 +118,7 @@ pub(crate) fn sum_of(i: Interval, j: Interval) -> Interval
     }
 }
 
+/// The sums of three intervals.
 pub(crate) fn sum_with(i: Interval, j: Interval, k: Interval) -> Interval
     requires first { HasWordEnds i }
     requires second { HasWordEnds j }
@@ -123,6 +131,7 @@ pub(crate) fn sum_with(i: Interval, j: Interval, k: Interval) -> Interval
     }
 }
 
+/// The differences of two intervals.
 pub(crate) fn difference_of(i: Interval, j: Interval) -> Interval
     requires first { HasWordEnds i }
     requires second { HasWordEnds j }
@@ -134,6 +143,7 @@ pub(crate) fn difference_of(i: Interval, j: Interval) -> Interval
     }
 }
 
+/// The differences of an interval and two others.
 pub(crate) fn difference_with(i: Interval, j: Interval, k: Interval) -> Interval
     requires first { HasWordEnds i }
     requires second { HasWordEnds j }
@@ -155,6 +165,7 @@ fn shifted(n: i128, k: u32) -> i128
     n * power_of_two(k)
 }
 
+/// An interval times 2 ^ k.
 pub(crate) fn times(k: u32, i: Interval) -> Interval
     requires words { HasWordEnds i }
     requires amount { k ≤ 63 }
@@ -176,6 +187,7 @@ fn joined(h: i128, l: i128, width: u32) -> i128
     shifted(h, width) + l
 }
 
+/// The words of high parts and low parts of `width` bits.
 pub(crate) fn joined_of(width: u32, h: Interval, l: Interval) -> Interval
     requires high { HasWordEnds h }
     requires low { HasWordEnds l }
@@ -229,6 +241,7 @@ fn unsigned_product(a: i128, b: i128) -> u128
     (a as u128) * (b as u128)
 }
 
+/// The floors of the ends by 2 ^ k.
 pub(crate) fn floors_of(k: u32, i: Interval) -> Interval
     requires { k ≤ 64 }
     ensures { result ≡ intervals.floors_of k i }
@@ -317,6 +330,7 @@ fn remainder_of(n: i128, k: u32) -> i128
     n.rem_euclid(power_of_two(k))
 }
 
+/// The remainders by 2 ^ k, where the ends have one floor, or all remainders.
 pub(crate) fn remainders_of(k: u32, i: Interval) -> Interval
     requires { k ≤ 64 }
     ensures { result ≡ rows.remainders_of k i }
@@ -335,7 +349,7 @@ pub(crate) fn remainders_of(k: u32, i: Interval) -> Interval
     }
 }
 
-// The conjunction of two words.
+/// The conjunction of two words.
 pub(crate) fn and_of(signed: bool, a: Interval, b: Interval) -> Option<Interval>
     ensures { result ≡ rows.and_of signed a b }
 {
@@ -349,7 +363,7 @@ pub(crate) fn and_of(signed: bool, a: Interval, b: Interval) -> Option<Interval>
     }
 }
 
-// Every bit flipped.
+/// Every bit flipped.
 pub(crate) fn flipped_of(ty: Ty, a: Interval) -> Interval
     requires of_words { IsTy ty }
     requires words { HasWordEnds a }
@@ -362,6 +376,7 @@ pub(crate) fn flipped_of(ty: Ty, a: Interval) -> Interval
     }
 }
 
+/// An interval of distances from the top.
 fn turned(top: i128, a: Interval) -> Interval
     requires top { IsWordValue top }
     requires words { HasWordEnds a }

@@ -1,0 +1,13 @@
+pub mod FirstDenial
+pub mod FreeBits
+pub mod Opcodes
+pub mod Agreement
+pub mod Walks
+pub mod Executions
+pub mod Recomputing
+pub mod Denials
+pub mod WordBits
+pub mod Truths
+pub mod Endings
+pub mod AssignmentNumbers
+pub mod Decisions

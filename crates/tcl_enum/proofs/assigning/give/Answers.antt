@@ -1,0 +1,10 @@
+-- No more bits than there are.
+use Rattle.std.proofs.Common.{arith, ◌-◌}
+use Rattle.tcl_enum.proofs.FreeBits.{bits_before, fewer_bits}
+use Rattle.tcl_enum.proofs.assigning.give.Goals as goal
+
+pub overflow_add-shift : goal.overflow_add-shift
+overflow_add-shift c =
+    let variables = c.args.variables.now in
+    let free = c.args.free.now in
+    omega (arith, bits_before variables free c.loop-k.k 0 (omega (arith, c.loop-k-test.true)) c.loop-k.invariant.within, fewer_bits variables free (c.loop-k.k - 1), c.requires.few, c.loop-k.invariant.shift, c.width_of-shift.ensures)

@@ -1,0 +1,4 @@
+pub mod NarrowFact
+pub mod Patterns
+pub mod Enumeration
+pub mod Laws
