@@ -1,0 +1,4 @@
+pub mod CitedLists
+pub mod GoalsFound
+pub mod Refutations
+pub mod Soundness

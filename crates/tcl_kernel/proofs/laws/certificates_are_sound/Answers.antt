@@ -1,0 +1,16 @@
+-- The laws are lemmas.
+use Rattle.tcl_kernel.proofs.Soundness.{bounds_sound, enumeration_sound, checks_sound}
+use Rattle.tcl_kernel.proofs.CitedLists.{stands_cited}
+use Rattle.tcl_kernel.proofs.laws.certificates_are_sound.Goals as goal
+
+pub returns-clause-bounds : goal.returns-clause-bounds
+returns-clause-bounds c = bounds_sound
+
+pub returns-clause-enumeration : goal.returns-clause-enumeration
+returns-clause-enumeration c = enumeration_sound
+
+pub returns-clause-checks : goal.returns-clause-checks
+returns-clause-checks c = checks_sound
+
+pub returns-clause-cited : goal.returns-clause-cited
+returns-clause-cited c = stands_cited

@@ -1,0 +1,32 @@
+-- Which certificates check, and the first reason against one that does not.
+use Rattle.std.specs.Prelude.{Option}
+use Rattle.tcl_lang.specs.Program.{VersionedProgram}
+use Rattle.tcl_goals.specs.declared.fact.Fact.{Fact}
+use Rattle.tcl_goals.specs.Order.{InOrder}
+use Rattle.tcl_kernel.specs.declared.reason.Reason.{Reason}
+use Rattle.tcl_kernel.specs.declared.certificate.Cert.{Cert}
+use Rattle.tcl_kernel.specs.declared.certificate.Cert.TheVariants as cert
+use Rattle.tcl_kernel.specs.Earlier.{Earlier}
+use Rattle.tcl_kernel.specs.Reasons.{first_of}
+use Rattle.tcl_kernel.specs.Entry.{entry_reason}
+use Rattle.tcl_kernel.specs.BoundsCertificate.{BoundsCheck, bounds_reason}
+use Rattle.tcl_kernel.specs.EnumerationCertificate.{EnumerationChecks, enumeration_reason}
+
+-- the certificate shows the fact
+abbrev pub CertificateChecks : VersionedProgram → Earlier → Fact → Cert → Type 0
+CertificateChecks p earlier fact cert.Bounds = BoundsCheck p fact
+CertificateChecks p earlier fact cert.Enumerated = EnumerationChecks p earlier.lemmas fact
+
+-- the fact is in order, and its certificate shows it
+pub record Checks (p : VersionedProgram) (earlier : Earlier) (fact : Fact) (c : Cert) : Type 0 where
+  pub order : InOrder p earlier.lemmas fact
+  pub certificate : CertificateChecks p earlier fact c
+
+-- the first reason against the certificate of a fact
+abbrev pub certificate_reason : VersionedProgram → Earlier → Fact → Cert → Option Reason
+certificate_reason p earlier fact cert.Bounds = bounds_reason p fact
+certificate_reason p earlier fact cert.Enumerated = enumeration_reason p earlier.lemmas fact
+
+-- the first reason against the fact with its certificate: the reasons of the fact by itself come first
+unfoldable pub first_reason : VersionedProgram → Earlier → Fact → Cert → Option Reason
+first_reason p earlier fact c = first_of (entry_reason p earlier.lemmas fact) (certificate_reason p earlier fact c)

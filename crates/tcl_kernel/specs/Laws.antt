@@ -1,0 +1,58 @@
+-- What checks give: certificates are sound, and so are checked inputs.
+use Rattle.std.specs.Prelude.{◌≡◌, ◌↔◌, ℕ, ℤ, List, length, None}
+use Rattle.tcl_lang.specs.Program.{VersionedProgram}
+use Rattle.tcl_lang.specs.Form.{IsWellFormed}
+use Rattle.tcl_lang.specs.Correct.{IsCounterexample}
+use Rattle.tcl_goals.specs.declared.fact.Fact.{Fact}
+use Rattle.tcl_goals.specs.declared.lemma.Numbered.{Numbered}
+use Rattle.tcl_goals.specs.Order.{InOrder}
+use Rattle.tcl_goals.specs.Holds.{FactHolds}
+use Rattle.tcl_kernel.specs.declared.certificate.Cert.{Cert}
+use Rattle.tcl_kernel.specs.Shown.{Stands}
+use Rattle.tcl_kernel.specs.Earlier.{Earlier}
+use Rattle.tcl_kernel.specs.Cited.{cited_lemmas}
+use Rattle.tcl_kernel.specs.Entry.{entry_reason}
+use Rattle.tcl_kernel.specs.BoundsCertificate.{BoundsCheck}
+use Rattle.tcl_kernel.specs.EnumerationCertificate.{EnumerationChecks}
+use Rattle.tcl_kernel.specs.Certificates.{Checks, first_reason}
+use Rattle.tcl_kernel.specs.Counterexample.{BreakChecks}
+
+-- no reason stands against a fact by itself exactly where it is in order
+abbrev pub EntriesAreInOrder : Type 0
+EntriesAreInOrder =
+    (p : VersionedProgram) (lemmas : List Numbered) (fact : Fact) →
+    (entry_reason p lemmas fact ≡ None) ↔ InOrder p lemmas fact
+
+-- there is no reason exactly where the fact is in order and its certificate shows it
+abbrev pub ReasonsAreExact : Type 0
+ReasonsAreExact =
+    (p : VersionedProgram) (earlier : Earlier) (fact : Fact) (c : Cert) → IsWellFormed p →
+    (first_reason p earlier fact c ≡ None) ↔ Checks p earlier fact c
+
+-- each kind of certificate is sound
+abbrev pub BoundsAreSound : Type 0
+BoundsAreSound =
+    (p : VersionedProgram) (lemmas : List Numbered) (fact : Fact) → IsWellFormed p → BoundsCheck p fact →
+    FactHolds p lemmas fact
+
+abbrev pub EnumerationIsSound : Type 0
+EnumerationIsSound =
+    (p : VersionedProgram) (lemmas : List Numbered) (fact : Fact) → IsWellFormed p → EnumerationChecks p lemmas fact →
+    FactHolds p lemmas fact
+
+-- so a fact that checks stands under the lemmas, and under those that it cites
+abbrev pub ChecksAreSound : Type 0
+ChecksAreSound =
+    (p : VersionedProgram) (earlier : Earlier) (fact : Fact) (c : Cert) → IsWellFormed p → Checks p earlier fact c →
+    Stands p earlier.lemmas fact
+
+abbrev pub CitedAreEnough : Type 0
+CitedAreEnough =
+    (p : VersionedProgram) (lemmas : List Numbered) (fact : Fact) → Stands p lemmas fact →
+    Stands p (cited_lemmas fact.hyps lemmas) fact
+
+-- an input that checks refutes the goal
+abbrev pub BreaksRefute : Type 0
+BreaksRefute =
+    (p : VersionedProgram) (goal : ℕ) (input : List ℤ) → IsWellFormed p → BreakChecks p goal input →
+    IsCounterexample (length p.variables) p.lines input goal

@@ -1,0 +1,12 @@
+pub mod Shown
+pub mod Earlier
+pub mod Cited
+pub mod Reasons
+pub mod Entry
+pub mod BoundsCertificate
+pub mod EnumerationCertificate
+pub mod Certificates
+pub mod Counterexample
+pub mod Answers
+pub mod Laws
+pub mod Refuting

@@ -1,0 +1,24 @@
+//! The kernel: certificates are checked here, and nowhere else does a proof come into being.
+#![tactic(auto)]
+
+mod answer;
+mod bounded;
+mod certificate;
+mod checker;
+mod cited;
+mod counterexample;
+mod entry;
+mod enumerated;
+mod facts;
+mod laws;
+mod proof;
+mod reason;
+
+pub use answer::Answer;
+pub use certificate::Cert;
+pub use checker::check;
+pub use counterexample::check_break;
+pub use facts::{Facts, NumberedFact};
+pub use laws::{certificates_are_sound, checked_breaks_refute, reasons_are_exact};
+pub use proof::Proof;
+pub use reason::Reason;

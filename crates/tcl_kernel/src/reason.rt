@@ -1,0 +1,23 @@
+//! Why an entry does not check.
+
+/// The first reason against an entry. Those of the entry itself come first, in this order, then those of its certificate,
+/// and `Break` for an input.
+#[derive(Clone, Copy, PartialEq, Eq)]
+pub enum Reason {
+    /// The goal or the level does not exist, or a bit of the clause is not one of a variable defined before that goal.
+    Claim,
+    /// A hypothesis is no part of the precondition, no assumption, no goal and no lemma of the list.
+    Hyp,
+    /// The hypotheses do not increase by their keys, or one is not smaller than the claim.
+    Order,
+    /// The uses do not increase, or one is no instruction before the claim's place.
+    Uses,
+    /// A bit stands twice in the cube, or is not one of a variable defined before the claim's place.
+    Cube,
+    /// The claim is algebraic, or does not follow from the intervals.
+    Bounds,
+    /// There are more than 20 free bits, a line is wide, or an assignment fails.
+    Enum,
+    /// The input does not fit, or does not break the goal.
+    Break,
+}
