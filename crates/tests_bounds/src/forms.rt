@@ -2,6 +2,7 @@
 
 use std::alloc::{AllocError, Global};
 use std::test::Fail;
+use tcl_bounds::{bounds, follows};
 use tcl_goals::{Claim, Cube, Fact, Hyp, Hyps, Uses};
 use tcl_lang::{Line, Ssa};
 use tcl_parse::parse;
@@ -17,27 +18,25 @@ pub(crate) fn form_of(alloc: Global, text: &str) -> Result<Ssa, Fail> {
     }
 }
 
-// The first `places` lines that can be hypotheses.
-pub(crate) fn hyps_before(
-    alloc: Global,
-    lines: &[Line],
-    places: usize,
-) -> Result<Hyps, AllocError> {
+// The lines before this place that can be hypotheses.
+fn hyps_before(alloc: Global, lines: &[Line], place: u32) -> Result<Hyps, AllocError> {
     let mut hyps = Hyps::new(alloc);
-    for (k, line) in lines.iter().take(places).enumerate() {
-        if line.is_hypothesis() {
-            hyps.push(Hyp::Line(k as u32))?;
+    for k in 0..place {
+        if let Some(line) = lines.get(k as usize) {
+            if line.is_hypothesis() {
+                hyps.push(Hyp::Line(k))?;
+            }
         }
     }
     Ok(hyps)
 }
 
-// The instructions among the first `places` lines.
-fn uses_before(alloc: Global, lines: &[Line], places: usize) -> Result<Uses, AllocError> {
+// The instructions before this place.
+fn uses_before(alloc: Global, lines: &[Line], place: u32) -> Result<Uses, AllocError> {
     let mut uses = Uses::new(alloc);
-    for (k, line) in lines.iter().take(places).enumerate() {
-        if let Line::Step(_) = line {
-            uses.push(k as u32)?;
+    for k in 0..place {
+        if let Some(Line::Step(_)) = lines.get(k as usize) {
+            uses.push(k)?;
         }
     }
     Ok(uses)
@@ -48,7 +47,7 @@ pub(crate) fn fact_at(
     alloc: Global,
     form: &Ssa,
     claim: Claim,
-    place: usize,
+    place: u32,
 ) -> Result<Fact, AllocError> {
     let lines = form.lines().as_slice();
     let hyps = hyps_before(alloc, lines, place)?;
@@ -59,4 +58,16 @@ pub(crate) fn fact_at(
         cube: Cube::new(alloc),
         uses,
     })
+}
+
+// Whether the claim follows from all before this place.
+pub(crate) fn follows_at(
+    alloc: Global,
+    form: &Ssa,
+    claim: Claim,
+    place: u32,
+) -> Result<bool, AllocError> {
+    let fact = fact_at(alloc, form, claim, place)?;
+    let found = bounds(alloc, form, &fact)?;
+    Ok(follows(&found, form, &fact.claim))
 }
