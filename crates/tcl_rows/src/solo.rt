@@ -261,50 +261,150 @@ fn ill_typed_texts(rt: HostRuntime) -> Result<(), AllocError> {
 }
 
 #[test]
-fn texts_that_the_walk_does_not_know(rt: HostRuntime) -> Result<(), AllocError> {
+fn reports_on_every_form_of_line(rt: HostRuntime) -> Result<(), AllocError> {
     let alloc = rt.alloc();
     let cases: &[(&str, u8, &str)] = &[
-        ("in u8 x\nin u5 y\nend\n", 10, "refused later line 2\n"),
-        ("in u9 x\nend\n", 10, "refused later line 1\n"),
-        ("in s8 x\nend\n", 10, "refused later line 1\n"),
+        ("in u8 x\nin u5 y\nend\n", 0, "verified\n"),
+        ("in s8 x\nend\n", 0, "verified\n"),
         (
             "in u8 x\nassert rng x = 9@u8 && true\nend\n",
-            10,
-            "refused later line 2\n",
+            1,
+            "goal 0 line 2 assert refuted\nin x 0\nrefuted\n",
         ),
-        ("in u8 x\nmul u8 y x x\nend\n", 10, "refused later line 2\n"),
         (
-            "in u8 x\n\nassume rng x = 1@u8\nend\n",
-            10,
-            "refused later line 3\n",
+            "in u8 x\nmul u8 y x x\nend\n",
+            1,
+            "goal 0 line 2 exact refuted\nin x 16\nrefuted\n",
         ),
+        ("in u8 x\n\nassume rng x = 1@u8\nend\n", 0, "verified\n"),
         (
             "in u8 x\ncut rng x = x\nend\n",
-            10,
-            "refused later line 2\n",
+            0,
+            "goal 0 line 2 cut proved\nverified\n",
         ),
         (
             "in u8 x\npost alg x = x\nend\n",
-            10,
-            "refused later line 2\n",
+            0,
+            "goal 0 line 2 post proved\nverified\n",
         ),
         (
             "in u8 x\nassert rng -x = x\nend\n",
-            10,
-            "refused later line 2\n",
+            1,
+            "goal 0 line 2 assert refuted\nin x 1\nrefuted\n",
         ),
-        ("nondet u8 x\nend\n", 10, "refused later line 1\n"),
-        (
-            "in u8 x\nmov u8 y x\ncast u16 z y\nend\n",
-            10,
-            "refused later line 3\n",
-        ),
+        ("nondet u8 x\nend\n", 0, "verified\n"),
+        ("in u8 x\nmov u8 y x\ncast u16 z y\nend\n", 0, "verified\n"),
         (
             "in u8 x\nassert rng 1@u9 = 1@u9\nend\n",
-            10,
-            "refused later line 2\n",
+            0,
+            "goal 0 line 2 assert proved\nverified\n",
+        ),
+        (
+            "in s8 x\nsub s8 y 0@s8 x\nend\n",
+            1,
+            "goal 0 line 2 exact refuted\nin x -128\nrefuted\n",
+        ),
+        (
+            "in u8 x\nassume rng x < 0@u8\nassert rng x = 7@u8\nend\n",
+            0,
+            "goal 0 line 3 assert proved\nverified\n",
+        ),
+        (
+            "nondet u4 k\nassert rng k < 15@u4\nend\n",
+            1,
+            "goal 0 line 2 assert refuted\nnondet 1 k 15\nrefuted\n",
+        ),
+        (
+            "in s8 a\nin s8 b\nmull s8 h l a b\npost alg 256*h + l = a*b\nend\n",
+            0,
+            "goal 0 line 4 post proved\nverified\n",
+        ),
+        (
+            "in u4 a\nin u4 b\nin u4 c\nassert rng b < 7@u4\nend\n",
+            1,
+            "goal 0 line 4 assert refuted\nin a 0\nin b 7\nin c 0\nrefuted\n",
+        ),
+        (
+            "in u4 a\nnondet u4 k\nassert rng k < a\nnondet s3 m\nassert rng m < 3@s3\nend\n",
+            1,
+            "goal 0 line 3 assert refuted\nin a 0\nnondet 2 k 0\nnondet 4 m 0\ngoal 1 line 5 assert refuted\nin a 1\nnondet 2 k 0\nnondet 4 m 3\nrefuted\n",
+        ),
+        (
+            "in u4 x\nassume rng x > 12@u4\nassert rng x = 13@u4\ncut rng x > 13@u4\npost rng x > 14@u4\nend\n",
+            1,
+            "goal 0 line 3 assert refuted\nin x 14\ngoal 1 line 4 cut refuted\nin x 13\ngoal 2 line 5 post proved\nrefuted\n",
+        ),
+        (
+            "in u8 x\nassert alg x*x = 0 mod 2\nend\n",
+            1,
+            "goal 0 line 2 assert refuted\nin x 1\nrefuted\n",
         ),
     ];
+    for (text, status, written) in cases {
+        expect(&rt, alloc, &plain(text), *status, *written)?;
+    }
+    Ok(())
+}
+
+#[test]
+fn goals_that_are_left(rt: HostRuntime) -> Result<(), AllocError> {
+    let alloc = rt.alloc();
+    let cases: &[(&str, u8, &str)] = &[
+        (
+            "in u18 x\npost alg x = x\nend\n",
+            2,
+            "goal 0 line 2 post unproved later\nunproved\n",
+        ),
+        (
+            "in u17 x\npost alg x = x\nend\n",
+            0,
+            "goal 0 line 2 post proved\nverified\n",
+        ),
+        (
+            "in u18 x\nassert rng x != 5@u18\nend\n",
+            2,
+            "goal 0 line 2 assert unproved later\nunproved\n",
+        ),
+        (
+            "in u17 x\nassert rng x != 131071@u17\nend\n",
+            1,
+            "goal 0 line 2 assert refuted\nin x 131071\nrefuted\n",
+        ),
+        (
+            "in u64 x\nassert alg x = 1\nend\n",
+            2,
+            "goal 0 line 2 assert unproved later\nunproved\n",
+        ),
+        (
+            "in u4 x\nin u18 y\nassert rng y != 5@u18\nassert rng x < 3@u4\nend\n",
+            2,
+            "goal 0 line 3 assert unproved later\ngoal 1 line 4 assert unproved later\nunproved\n",
+        ),
+        (
+            "in u8 x\nassert alg x**17 = 0\nend\n",
+            2,
+            "goal 0 line 2 assert unproved later\nunproved\n",
+        ),
+        (
+            "in u8 x\nin u32 y\nassert rng x < 255@u8\nassert rng y <= y\nend\n",
+            1,
+            "goal 0 line 3 assert refuted\nin x 255\nin y 0\ngoal 1 line 4 assert unproved later\nrefuted\n",
+        ),
+    ];
+    for (text, status, written) in cases {
+        expect(&rt, alloc, &plain(text), *status, *written)?;
+    }
+    Ok(())
+}
+
+#[test]
+fn a_reduction_by_a_prime(rt: HostRuntime) -> Result<(), AllocError> {
+    let alloc = rt.alloc();
+    let cases: &[(&str, u8, &str)] = &[(
+        "in s16 a\nmulj s16 p a 20159@s16\nadd s32 q p 33554432@s32\nsplit s32 t lo q 26\nvpc s16 u t\nmulj s16 m u 3329@s16\nvpc s32 b a\nsub s32 d b m\nvpc s16 r d\npost rng -1664@s16 <= r && r <= 1664@s16\npost alg r = a mod 3329\nend\n",
+        0,
+        "goal 0 line 3 exact proved\ngoal 1 line 5 exact proved\ngoal 2 line 7 exact proved\ngoal 3 line 8 exact proved\ngoal 4 line 9 exact proved\ngoal 5 line 10 post proved\ngoal 6 line 11 post proved\nverified\n",
+    )];
     for (text, status, written) in cases {
         expect(&rt, alloc, &plain(text), *status, *written)?;
     }
@@ -332,23 +432,7 @@ fn repeated(
 fn limits_and_their_edges(rt: HostRuntime) -> Result<(), AllocError> {
     let alloc = rt.alloc();
     let cases: &[(&str, &str, u32, &str, u8, &str)] = &[
-        // The walk knows 64 lines.
-        (
-            "in u1 x\n",
-            "assert rng 0@u1 < 1@u1\n",
-            64,
-            "end\n",
-            10,
-            "refused later line 65\n",
-        ),
-        (
-            "in u1 x\n",
-            "mov u1 x x\n",
-            4096,
-            "end\n",
-            10,
-            "refused later line 65\n",
-        ),
+        ("in u1 x\n", "mov u1 x x\n", 4096, "end\n", 0, "verified\n"),
         (
             "in u1 x\n",
             "mov u1 x x\n",
@@ -362,16 +446,16 @@ fn limits_and_their_edges(rt: HostRuntime) -> Result<(), AllocError> {
             "nondet u1 x\nmov u1 x x\n",
             2048,
             "end\n",
-            10,
-            "refused later line 1\n",
+            0,
+            "verified\n",
         ),
         (
             "",
             "adds u1 c x 0@u1 0@u1\n",
             4096,
             "end\n",
-            10,
-            "refused later line 1\n",
+            0,
+            "verified\n",
         ),
         (
             "in u1 x\n",
@@ -383,15 +467,7 @@ fn limits_and_their_edges(rt: HostRuntime) -> Result<(), AllocError> {
         ),
         (
             "in u1 x\n",
-            "assert rng true\n",
-            4096,
-            "end\n",
-            10,
-            "refused later line 2\n",
-        ),
-        (
-            "in u1 x\n",
-            "assert rng true\n",
+            "assert rng x <= 1@u1\n",
             4097,
             "end\n",
             9,
@@ -443,8 +519,8 @@ fn limits_and_their_edges(rt: HostRuntime) -> Result<(), AllocError> {
             " + x",
             4096,
             "\nend\n",
-            10,
-            "refused later line 2\n",
+            1,
+            "goal 0 line 2 post refuted\nin x 1\nrefuted\n",
         ),
         (
             "end\n",
@@ -474,13 +550,45 @@ fn limits_and_their_edges(rt: HostRuntime) -> Result<(), AllocError> {
     Ok(())
 }
 
+/// The report on so many goals that are proved, one a line from line 2 on.
+fn all_proved(alloc: Global, goals: u32) -> Result<String, AllocError> {
+    let mut text = String::new(alloc);
+    for goal in 0..goals {
+        let line = goal + 2;
+        text.push_str(format!(in alloc; "goal {goal} line {line} assert proved\n")?.as_str())?;
+    }
+    text.push_str("verified\n")?;
+    Ok(text)
+}
+
+#[test]
+fn as_many_goals_as_there_may_be(rt: HostRuntime) -> Result<(), AllocError> {
+    let alloc = rt.alloc();
+    let text = repeated(alloc, "in u1 x\n", "assert rng x <= 1@u1\n", 4096, "end\n")?;
+    let written = all_proved(alloc, 4096)?;
+    let case = Case {
+        cut: 65_536,
+        room: 1_048_576,
+        ..plain(text.as_str())
+    };
+    expect(&rt, alloc, &case, 0, written.as_str())
+}
+
 #[test]
 fn words_and_faults(rt: HostRuntime) -> Result<(), AllocError> {
     let alloc = rt.alloc();
     let text = "in u8 x\npre rng x < 255@u8\nadd u8 y x 1@u8\nend\n";
-    for words in [["--budget", "0"], ["--help", ""], ["", ""]] {
+    let refused: &[&[&str]] = &[
+        &["--budget", "0"],
+        &["--budget"],
+        &["--proofs", "--trace"],
+        &["--jobs", "2"],
+        &["--help"],
+        &[""],
+    ];
+    for words in refused {
         let case = Case {
-            words: &words,
+            words: *words,
             ..plain(text)
         };
         expect(&rt, alloc, &case, 8, "refused usage\n")?;

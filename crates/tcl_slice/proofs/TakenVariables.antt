@@ -5,6 +5,7 @@ use Rattle.std.specs.Prelude.{is_some}
 use Rattle.std.proofs.lemmas.Bool.{cases_lt}
 use Rattle.std.proofs.lemmas.Bool.Decides.{nat_tests}
 use Rattle.std.proofs.lemmas.Option.{slice_get_within}
+use Rattle.std.proofs.lemmas.List.Concat.{flat_map-cons}
 use Rattle.tcl_lang.specs.declared.ty.Ty.{Ty}
 use Rattle.tcl_lang.specs.declared.instr.Op.{Op}
 use Rattle.tcl_lang.specs.declared.instr.Op.TheVariants.{Nondet}
@@ -120,7 +121,8 @@ either (x ∷ xs) ys v e h = at (nat_eq x v) (is_among xs v) e (λ g. either xs 
 pub taken_not_computed : (f : VersionedProgram) (j v : ℕ) (l : Line) (uses : List ℕ) → IsWellFormed f → slice_get f.lines j ≡ Some l → taken_name l ≡ Some v → is_among (computed_variables f.lines uses) v ≡ false
 taken_not_computed f j v l [] w at n = refl
 taken_not_computed f j v l (k ∷ uses) w at n =
-    either (computed_in (slice_get f.lines k)) (computed_variables f.lines uses) v (here (slice_get f.lines k) refl) (taken_not_computed f j v l uses w at n)
+    ap (λ vs. is_among vs v) (flat_map-cons (λ m. computed_in (slice_get f.lines m)) k uses)
+    ∙ either (computed_in (slice_get f.lines k)) (computed_variables f.lines uses) v (here (slice_get f.lines k) refl) (taken_not_computed f j v l uses w at n)
   where
     here : (o : Option Line) → slice_get f.lines k ≡ o → is_among (computed_in o) v ≡ false
     here None e = refl

@@ -1,9 +1,10 @@
-pub mod InputLemmas
-pub mod StoreLemmas
-pub mod WalkLemmas
-pub mod Refuting
-pub mod Numbering
-pub mod Finding
 pub mod TextLemmas
-pub mod EarlyLemmas
+pub mod FormGoals
+pub mod AllAnswers
+pub mod InputLines
+pub mod WholeFacts
+pub mod Settling
+pub mod FirstInputs
+pub mod Breaking
+pub mod Checks
 pub mod Verdict

@@ -4,6 +4,7 @@ use Rattle.std.specs.Fmt.{decimal}
 use Rattle.tcl_io.specs.Source.{then_left, IsEmptied}
 use Rattle.tcl_io.specs.Sink.{and_then}
 use Rattle.tcl_lang.specs.Program.{ReadProgram}
+use Rattle.tcl_lang.specs.Versions.{form_of}
 use Rattle.tcl_lang.specs.Correct.{IsCorrect}
 use Rattle.tcl_lang.specs.Limit.{KeepsLimits}
 use Rattle.tcl_lang.specs.declared.reason.Reason.{Reason}
@@ -14,9 +15,10 @@ use Rattle.tcl_text.specs.Reading.{Reads, FirstFault}
 use Rattle.tcl_parse.specs.TextRefusals.{Exceeds}
 use Rattle.tcl_types.specs.Fault.{IsTyped, IsIll}
 use Rattle.tcl_top.specs.Words.{word_of_limit, word_of_reason}
-use Rattle.tcl_top.specs.Early.{AreEarly, IsFirstOutside}
+use Rattle.tcl_goals.specs.declared.piece.Verdict.{Verdict}
+use Rattle.tcl_goals.specs.declared.piece.Verdict.TheVariants as verdict
 use Rattle.tcl_top.specs.declared.answer.Answer.{Answer}
-use Rattle.tcl_top.specs.Answers.{AreTrueAnswers, any_refuted}
+use Rattle.tcl_top.specs.Answers.{AreTrueAnswers, verdict_of}
 use Rattle.tcl_top.specs.Report.{report_of}
 
 -- the greatest number of bytes of a text
@@ -39,12 +41,11 @@ limit_text word = codes "refused limit " ++ (word ++ 10 ∷ [])
 abbrev pub type_text : ℕ → Reason → List ℕ
 type_text number reason = codes "refused type line " ++ (decimal number ++ (codes " " ++ (word_of_reason reason ++ 10 ∷ [])))
 
-abbrev pub later_text : ℕ → List ℕ
-later_text number = codes "refused later line " ++ (decimal number ++ 10 ∷ [])
-
--- status 1 where some goal is refuted, and 0 where none is
-abbrev pub verdict_status : List Answer → ℕ
-verdict_status answers = if any_refuted answers then 1 else 0
+-- the status of a verdict
+abbrev pub verdict_status : Verdict → ℕ
+verdict_status verdict.Verified = 0
+verdict_status verdict.Refuted = 1
+verdict_status verdict.Unproved = 2
 
 -- the text reads as the program, which keeps the limits
 pub record IsAccepted (bytes : List ℕ) (program : ReadProgram) : Type 0 where
@@ -82,35 +83,22 @@ pub record IsIllTyped (bytes : List ℕ) (status : ℕ) (text : List ℕ) : Type
   pub status_is : status ≡ 4
   pub text_is : text ≡ type_text number reason
 
--- the text is that of a well typed program, and this is the first line that the walk over inputs does not know
-pub record IsLater (bytes : List ℕ) (status : ℕ) (text : List ℕ) : Type 0 where
-  pub program : ReadProgram
-  pub accepted : IsAccepted bytes program
-  pub typed : IsTyped program
-  pub place : ℕ
-  pub outside : IsFirstOutside program.program.lines place
-  pub number : ℕ
-  pub at : slice_get program.places place ≡ Some number
-  pub status_is : status ≡ 10
-  pub text_is : text ≡ later_text number
-
--- the text is that of a well typed program, all lines are known, and this is the status and the text of a report on it of
--- which every line is true
+-- the text is that of a well typed program, and this is the status and the text of a report on it of which every line is
+-- true
 pub record IsReported (bytes : List ℕ) (status : ℕ) (text : List ℕ) : Type 0 where
   pub program : ReadProgram
   pub accepted : IsAccepted bytes program
   pub typed : IsTyped program
-  pub early : AreEarly program.program.lines
   pub answers : List Answer
-  pub are_true : AreTrueAnswers (length program.program.names) program.program.lines answers
-  pub status_is : status ≡ verdict_status answers
+  pub are_true : AreTrueAnswers (length program.program.names) program.program.lines (form_of program.program) answers
+  pub status_is : status ≡ verdict_status (verdict_of answers)
   pub text_is : text ≡ report_of program answers
 
 -- the status and the text for a text that was read to its end
 abbrev pub IsAnswered : List ℕ → ℕ → List ℕ → Type 0
 IsAnswered bytes status text =
     IsOutsideGrammar bytes status text ⊎ IsOutOfPlace bytes status text ⊎ IsBeyondLimit bytes status text
-    ⊎ IsIllTyped bytes status text ⊎ IsLater bytes status text ⊎ IsReported bytes status text
+    ⊎ IsIllTyped bytes status text ⊎ IsReported bytes status text
 
 -- the source was read to its end, and these are the bytes that it gave
 pub record IsReadWhole (left left_new : Option (List ℕ)) (given given_new : ℕ) (bytes : List ℕ) : Type 0 where
@@ -178,7 +166,7 @@ pub record ReadsCorrect (bytes : List ℕ) : Type 0 where
 
 -- the statuses that the top call answers
 abbrev pub is_status : ℕ → Bool
-is_status n = n == 0 || n == 1 || n == 3 || n == 4 || n == 5 || n == 6 || n == 7 || n == 8 || n == 9 || n == 10
+is_status n = n == 0 || n == 1 || n == 2 || n == 3 || n == 4 || n == 5 || n == 6 || n == 7 || n == 8 || n == 9
 
 -- the statuses that write nothing, and those that come with a text or a part of one
 abbrev pub is_silent : ℕ → Bool

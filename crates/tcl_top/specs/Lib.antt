@@ -1,7 +1,5 @@
 pub mod Words
-pub mod Early
-pub mod Inputs
-pub mod Found
+pub mod Left
 pub mod Answers
 pub mod Report
 pub mod Headline

@@ -1,67 +1,79 @@
 -- The text of a report: one line for each goal in order, after a refuted one the input, and the verdict as the last line.
-use Rattle.std.specs.Prelude.{ℕ, ◌+◌, ℤ, cond, if◌then◌else◌, codes, List, [], ◌∷◌, ◌++◌, slice_index, slice_index_or, slice_get, filter_map, Option, Some, None}
+use Rattle.std.specs.Prelude.{ℕ, ◌+◌, ℤ, pos, true, false, Bool, cond, codes, List, [], ◌∷◌, ◌++◌, slice_index, slice_index_or, slice_get, Option, Some, None, is_some}
 use Rattle.std.specs.Fmt.{decimal, signed_decimal}
 use Rattle.tcl_lang.specs.declared.pred.Line.{Line}
-use Rattle.tcl_lang.specs.declared.pred.Line.TheVariants.{Input, Step, Cut, Post}
-use Rattle.tcl_lang.specs.Line.{is_goal}
-use Rattle.tcl_lang.specs.Program.{NamedProgram, ReadProgram}
+use Rattle.tcl_lang.specs.Line.{is_input, taken_name}
+use Rattle.tcl_lang.specs.Program.{ReadProgram}
+use Rattle.tcl_goals.specs.declared.goal.Kind.{Kind}
+use Rattle.tcl_goals.specs.declared.goal.Kind.TheVariants as kind
+use Rattle.tcl_goals.specs.declared.goal.Goal.{Goal}
+use Rattle.tcl_goals.specs.declared.piece.Verdict.{Verdict}
+use Rattle.tcl_goals.specs.declared.piece.Verdict.TheVariants as verdict
+use Rattle.tcl_goals.specs.Places.{goals_of}
 use Rattle.tcl_top.specs.declared.answer.Answer.{Answer}
-use Rattle.tcl_top.specs.declared.answer.Answer.TheVariants.{Proved, Refuted}
-use Rattle.tcl_top.specs.Answers.{any_refuted}
+use Rattle.tcl_top.specs.declared.answer.Answer.TheVariants.{Proved, Refuted, Later}
+use Rattle.tcl_top.specs.Answers.{verdict_of}
 
 -- the word of a goal's kind
-abbrev pub kind_of : Line → List ℕ
-kind_of (Step i) = codes "exact"
-kind_of (Cut p) = codes "cut"
-kind_of (Post p) = codes "post"
-kind_of _ = codes "assert"
+abbrev pub word_of_kind : Kind → List ℕ
+word_of_kind kind.Exact = codes "exact"
+word_of_kind kind.Assert = codes "assert"
+word_of_kind kind.Cut = codes "cut"
+word_of_kind kind.Post = codes "post"
 
--- the lines of an input: `in NAME VALUE` for each `in` name in order
-abbrev pub value_line : List ℕ → ℤ → List ℕ
-value_line name n = codes "in " ++ (name ++ (codes " " ++ (signed_decimal n ++ 10 ∷ [])))
+-- the beginning of the line of a value: `in` for an `in` name, and else `nondet` with the line of the text
+abbrev pub value_head : Bool → ℕ → List ℕ
+value_head true number = codes "in "
+value_head false number = codes "nondet " ++ (decimal number ++ codes " ")
 
--- the name of an `in` line
-abbrev pub input_name : Line → Option ℕ
-input_name (Input T name) = Some name
-input_name _ = None
+-- the line of the value that a line of the program takes, which has this number in the text; none where it takes none
+abbrev pub named_text : Bool → List (List ℕ) → ℕ → ℤ → Option ℕ → List ℕ
+named_text is_in names number n None = []
+named_text is_in names number n (Some name) =
+    value_head is_in number ++ (slice_index_or names name [] ++ (codes " " ++ (signed_decimal n ++ 10 ∷ [])))
 
-abbrev pub input_names : List Line → List ℕ
-input_names lines = filter_map input_name lines
+abbrev pub taken_text : List (List ℕ) → ℕ → ℤ → Line → List ℕ
+taken_text names number n l = named_text (is_input l) names number n (taken_name l)
 
-unfoldable pub value_lines : List (List ℕ) → List ℕ → List ℤ → List ℕ
-value_lines names (name ∷ others) (n ∷ input) = value_line (slice_index_or names name []) n ++ value_lines names others input
-value_lines names _ _ = []
+-- the lines of an input: one for each value in the order of the lines that take them, `in` lines before all others. These
+-- are the lines from place k on, before which j values are taken.
+unfoldable pub values_text : List (List ℕ) → List ℕ → List ℤ → ℕ → ℕ → List Line → List ℕ
+values_text names places input k j [] = []
+values_text names places input k j (l ∷ lines) =
+    taken_text names (slice_index places k) (slice_index_or input j (pos 0)) l
+    ++ values_text names places input (k + 1) (j + cond (is_some (taken_name l)) 1 0) lines
+
+abbrev pub input_text : ReadProgram → List ℤ → List ℕ
+input_text p input = values_text p.program.names p.places input 0 0 p.program.lines
 
 -- what follows the kind on a goal's line, and the lines of the input
-abbrev pub answer_text : List (List ℕ) → List Line → Option Answer → List ℕ
-answer_text names lines None = []
-answer_text names lines (Some Proved) = codes "proved" ++ 10 ∷ []
-answer_text names lines (Some (Refuted input)) = codes "refuted" ++ (10 ∷ [] ++ value_lines names (input_names lines) input)
+abbrev pub answer_text : ReadProgram → Option Answer → List ℕ
+answer_text p None = []
+answer_text p (Some Proved) = codes "proved" ++ 10 ∷ []
+answer_text p (Some (Refuted input)) = codes "refuted" ++ (10 ∷ [] ++ input_text p input)
+answer_text p (Some Later) = codes "unproved later" ++ 10 ∷ []
 
--- the beginning of the line of goal i, which stands at this line of the text
-abbrev pub goal_head : ℕ → ℕ → List ℕ
-goal_head i number = codes "goal " ++ (decimal i ++ (codes " line " ++ (decimal number ++ codes " ")))
+-- the beginning of the line of a goal
+abbrev pub goal_head : ReadProgram → Goal → List ℕ
+goal_head p g =
+    codes "goal " ++ (decimal g.number ++ (codes " line " ++ (decimal (slice_index p.places g.place) ++ codes " ")))
 
--- the line of goal i
-abbrev pub goal_text : NamedProgram → ℕ → ℕ → Line → Option Answer → List ℕ
-goal_text p i number l answer =
-    goal_head i number ++ (kind_of l ++ (codes " " ++ answer_text p.names p.lines answer))
+-- the line of a goal
+abbrev pub goal_text : ReadProgram → Goal → Option Answer → List ℕ
+goal_text p g answer = goal_head p g ++ (word_of_kind g.kind ++ (codes " " ++ answer_text p answer))
 
--- what the report says of the line of place k, where i goals stand before it
-abbrev pub line_text : NamedProgram → List ℕ → List Answer → ℕ → ℕ → Line → List ℕ
-line_text p places answers k i l =
-    if is_goal l then goal_text p i (slice_index places k) l (slice_get answers i) else []
-
--- the text of the goals, from place k and goal i on
-unfoldable pub goals_text : NamedProgram → List ℕ → List Answer → ℕ → ℕ → List Line → List ℕ
-goals_text p places answers k i [] = []
-goals_text p places answers k i (l ∷ lines) =
-    line_text p places answers k i l ++ goals_text p places answers (k + 1) (i + cond (is_goal l) 1 0) lines
+-- the lines of these goals
+unfoldable pub goals_text : ReadProgram → List Answer → List Goal → List ℕ
+goals_text p answers [] = []
+goals_text p answers (g ∷ goals) = goal_text p g (slice_get answers g.number) ++ goals_text p answers goals
 
 -- the last line
-abbrev pub verdict_text : List Answer → List ℕ
-verdict_text answers = if any_refuted answers then codes "refuted" ++ 10 ∷ [] else codes "verified" ++ 10 ∷ []
+abbrev pub word_of_verdict : Verdict → List ℕ
+word_of_verdict verdict.Verified = codes "verified"
+word_of_verdict verdict.Refuted = codes "refuted"
+word_of_verdict verdict.Unproved = codes "unproved"
 
 -- the report
-abbrev pub report_of : ReadProgram → List Answer → List ℕ
-report_of p answers = goals_text p.program p.places answers 0 0 p.program.lines ++ verdict_text answers
+unfoldable pub report_of : ReadProgram → List Answer → List ℕ
+report_of p answers =
+    goals_text p answers (goals_of p.program.lines) ++ (word_of_verdict (verdict_of answers) ++ 10 ∷ [])

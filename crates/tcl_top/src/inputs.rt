@@ -1,66 +1,128 @@
-//! The inputs of a program by their numbers.
+//! The lines of an input in a report.
 
-ghost use Rattle.std.specs.Prelude.{◌≡◌, ◌≤◌, ◌<◌, ◌^◌, ◌+◌, ◌/◌, ◌%◌, IfOk, length, filter_map, pos, slice_set};
-ghost use Rattle.tcl_lang.specs.Run as run_words;
-ghost use Rattle.tcl_top.specs.Early as early;
-ghost use Rattle.tcl_top.specs.Inputs.{nth_input};
+ghost use Rattle.std.specs.Prelude.{◌≡◌, ◌<◌, ◌++◌, ◌+◌, ◌^◌, [], ◌∷◌, OnOk, OnErr, cond, length, pos, slice_index, slice_index_or};
+ghost use Rattle.tcl_top.specs.Report as report_words;
 
 use std::alloc::{AllocError, Global};
-use tcl_lang::{Line, Ty};
+use tcl_lang::{Line, Names, Typed};
+use tcl_report::{Text, add, add_integer, add_number};
 
-/// The types of the values that the lines take.
-#[tactic(auto, using(crate::proofs::InputLemmas::taken_types_some, crate::proofs::InputLemmas::taken_types_none))]
-pub(crate) fn taken_types(alloc: Global, lines: &[Line]) -> Result<Vec<Ty>, AllocError>
-    ensures { IfOk result (λ types. types.items ≡ run_words.taken_types lines.now) }
+/// The bytes of name `n`, none past the last name.
+fn name_at(names: &Names, n: u32) -> &[u8]
+    ensures { result.now ≡ slice_index_or names.now n [] }
 {
-    let mut types = Vec::new(alloc);
-    for line in lines {
-        if let Some(ty) = line.taken_type() {
-            types.push(ty)?;
+    match names.as_slice().get(n as usize) {
+        Some(name) => name.as_slice(),
+        None => &[],
+    }
+}
+
+/// The line number of place `k`.
+pub(crate) fn number_at(typed: &Typed, k: usize) -> u64
+    ensures { result ≡ slice_index typed.now.places k }
+{
+    match typed.places().as_slice().get(k) {
+        Some(number) => *number,
+        None => 0,
+    }
+}
+
+/// Value `j` of an input, 0 past its end.
+fn value_at(input: &[i128], j: usize) -> i128
+    ensures { result ≡ slice_index_or input.now j (pos 0) }
+{
+    match input.get(j) {
+        Some(value) => *value,
+        None => 0,
+    }
+}
+
+/// The count with one more, where there is one more.
+fn counted(n: usize, more: bool) -> usize
+    requires { n < 2 ^ 32 }
+    ensures { result ≡ n + cond more 1 0 }
+{
+    if more { n + 1 } else { n }
+}
+
+/// Adds the beginning of the line of a value.
+#[tactic(auto, using(crate::proofs::TextLemmas::joined))]
+fn add_head(alloc: Global, text: &mut Text, is_in: bool, number: u64) -> Result<(), AllocError>
+    ensures ok { OnOk result (text.new.items ≡ text.old.items ++ report_words.value_head is_in number) }
+{
+    if is_in {
+        add(text, b"in ")
+    } else {
+        add(text, b"nondet ")?;
+        add_number(alloc, text, number)?;
+        add(text, b" ")
+    }
+}
+
+/// Adds the line of one value, under the name to which it is given.
+#[tactic(auto, using(crate::proofs::TextLemmas::joined))]
+fn add_named(
+    alloc: Global,
+    text: &mut Text,
+    names: &Names,
+    is_in: bool,
+    number: u64,
+    value: i128,
+    name: Option<u32>,
+) -> Result<(), AllocError>
+    ensures ok { OnOk result (text.new.items ≡ text.old.items ++ report_words.named_text is_in names.now number value name) }
+{
+    match name {
+        None => Ok(()),
+        Some(name) => {
+            add_head(alloc, text, is_in, number)?;
+            add(text, name_at(names, name))?;
+            add(text, b" ")?;
+            add_integer(alloc, text, &value)?;
+            add(text, b"\n")
         }
     }
-    Ok(types)
 }
 
-/// The widths of the types, added.
-#[tactic(auto, using(crate::proofs::InputLemmas::total_width_step, crate::proofs::InputLemmas::total_width_done))]
-pub(crate) fn total_width(types: &[Ty]) -> u32
-    requires { early.total_width types.now ≤ 12 }
-    ensures { result ≡ early.total_width types.now }
+/// Adds the line of the value that the line of place `k` takes, which is value `j` of the input.
+fn add_taken(
+    alloc: Global,
+    text: &mut Text,
+    typed: &Typed,
+    input: &[i128],
+    k: usize,
+    j: usize,
+    line: &Line,
+) -> Result<(), AllocError>
+    ensures ok { OnOk result (text.new.items ≡ text.old.items ++ report_words.taken_text typed.now.program.names (slice_index typed.now.places k) (slice_index_or input.now j (pos 0)) line.now) }
 {
-    let mut total = 0;
-    for ty in types {
-        total += ty.width;
+    add_named(
+        alloc,
+        text,
+        typed.program().names(),
+        line.is_input(),
+        number_at(typed, k),
+        value_at(input, j),
+        line.taken_name(),
+    )
+}
+
+/// Adds the lines of an input, one for each value in the order of the lines that take them.
+#[tactic(auto, using(crate::proofs::TextLemmas::values_more, crate::proofs::TextLemmas::values_done, crate::proofs::TextLemmas::count_more))]
+pub(crate) fn add_input(
+    alloc: Global,
+    text: &mut Text,
+    typed: &Typed,
+    input: &[i128],
+) -> Result<(), AllocError>
+    ensures ok { OnOk result (text.new.items ≡ text.old.items ++ report_words.input_text typed.now input.now) }
+{
+    let lines = typed.program().lines();
+    let mut j = 0;
+    for k in 0..lines.len() {
+        let line = lines.at(k);
+        add_taken(alloc, text, typed, input, k, j, line)?;
+        j = counted(j, line.taken_name().is_some());
     }
-    total
-}
-
-/// Writes the values of input `n` of these types.
-#[tactic(auto, using(crate::proofs::InputLemmas::total_width_step, crate::proofs::InputLemmas::total_width_done, crate::proofs::InputLemmas::written_more, crate::proofs::InputLemmas::written_all))]
-pub(crate) fn write_input(types: &[Ty], n: u32, input: &mut [i128])
-    requires room { length input.old ≡ length types.now }
-    requires narrow { early.total_width types.now ≤ 12 }
-    ensures { input.new ≡ nth_input types.now n }
-{
-    let mut below = total_width(types);
-    for k in 0..types.len() {
-        below -= types[k].width;
-        write_digit(types[k].width, n, below, k, input);
-    }
-}
-
-/// Writes the digit of `width` bits that stands above the lowest `below` bits of `n` at place `k`.
-fn write_digit(width: u32, n: u32, below: u32, k: usize, input: &mut [i128])
-    requires within { k < length input.old }
-    requires narrow { below + width ≤ 12 }
-    ensures { input.new ≡ slice_set input.old k (pos (n / 2 ^ below % 2 ^ width)) }
-{
-    input[k] = digit(n, below, width);
-}
-
-fn digit(n: u32, below: u32, width: u32) -> i128
-    requires narrow { below + width ≤ 12 }
-    ensures { result ≡ pos (n / 2 ^ below % 2 ^ width) }
-{
-    (n / (1u32 << below) % (1u32 << width)) as i128
+    Ok(())
 }

@@ -2,13 +2,13 @@
 #![tactic(auto)]
 
 mod answer;
-mod early;
-mod evaluation;
+mod answering;
+mod attempt;
+mod found;
 mod inputs;
 mod refusal;
 mod report;
 mod solo;
-mod walk;
 
 pub use answer::Answer;
 pub use solo::{Done, solo_run};

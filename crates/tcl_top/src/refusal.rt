@@ -89,10 +89,3 @@ pub(crate) fn type_text(alloc: Global, number: u64, reason: Reason) -> Result<Ve
     add(&mut text, b"\n")?;
     Ok(text)
 }
-
-/// The refusal of a line that the walk over inputs does not know.
-pub(crate) fn later_text(alloc: Global, number: u64) -> Result<Vec<u8>, AllocError>
-    ensures { IfOk result (λ text. text.items ≡ headline.later_text number) }
-{
-    numbered(alloc, "refused later line ", number)
-}

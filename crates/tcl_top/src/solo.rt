@@ -1,22 +1,21 @@
-//! The call that reads a program, tries its inputs, and writes the report.
+//! The call that reads a program, works on its goals, and writes the report.
 
 ghost use Rattle.std.specs.Prelude.{◌≡◌, ◌⊎◌, ◌<◌, ◌≤◌, ◌+◌, true, IfOk, IfSome, IfNone, OnOk, OnErr, length};
 ghost use Rattle.tcl_io.specs.Faults.{Rose};
 ghost use Rattle.tcl_parse.specs.TextRefusals.{Says};
 ghost use Rattle.tcl_types.specs.Fault.{IsTyped};
-ghost use Rattle.tcl_top.specs.Early.{AreEarly};
 ghost use Rattle.tcl_top.specs.Headline as headline;
 
-use crate::answer::Answer;
-use crate::early::first_outside;
-use crate::refusal::{later_text, limit_text, shape_text, text_text, type_text};
-use crate::report::{any_refuted, report_text};
-use crate::walk::answers;
+use crate::answer::verdict_of;
+use crate::answering::answers_to;
+use crate::refusal::{limit_text, shape_text, text_text, type_text};
+use crate::report::report_text;
 use std::alloc::{AllocError, Global};
+use tcl_goals::{Verdict, goals};
 use tcl_io::{ReadEnd, Sink, Source, WriteFault, read_all, write_all};
 use tcl_lang::{Parsed, Typed};
-use tcl_list::Listing;
 use tcl_parse::{ParseFault, parse};
+use tcl_ssa::ssa;
 use tcl_types::{TypeFault, check};
 
 /// The greatest number of bytes of a text.
@@ -25,8 +24,8 @@ const BYTE_LIMIT: u64 = 1_048_576;
 /// How a top call ended.
 #[derive(Clone, Copy, Debug, PartialEq, Eq)]
 pub struct Done {
-    /// 0 verified, 1 refuted, 3 outside the grammar, 4 ill-typed, 5 read fault, 6 write fault, 7 out of memory, 8 usage,
-    /// 9 limit, 10 a line that the walk over inputs does not know.
+    /// 0 verified, 1 refuted, 2 unproved, 3 outside the grammar, 4 ill-typed, 5 read fault, 6 write fault, 7 out of memory,
+    /// 8 usage, 9 limit.
     pub status: u8,
     /// The number of bytes that the sink took in this call.
     pub written: u64,
@@ -39,42 +38,29 @@ struct Reply {
     text: Vec<u8>,
 }
 
-/// The status of a report: 1 where some goal is refuted.
-fn verdict_status(answers: &Listing<Answer>) -> u8
-    ensures { result ≡ headline.verdict_status answers.now }
+/// The status of a verdict.
+fn verdict_status(verdict: Verdict) -> u8
+    ensures { result ≡ headline.verdict_status verdict }
 {
-    if any_refuted(answers) { 1 } else { 0 }
+    match verdict {
+        Verdict::Verified => 0,
+        Verdict::Refuted => 1,
+        Verdict::Unproved => 2,
+    }
 }
 
-/// The report on a program that the walk over inputs knows.
+/// The report on a well typed program.
 fn report_on(alloc: Global, bytes: &[u8], typed: &Typed) -> Result<Reply, AllocError>
     requires accepted { headline.IsAccepted bytes.now typed.now }
     requires typed { IsTyped typed.now }
-    requires early { AreEarly typed.now.program.lines }
     ensures { IfOk result (λ reply. headline.IsReported bytes.now reply.status reply.text.items) }
 {
-    let answers = answers(alloc, typed.program())?;
-    let text = report_text(alloc, typed, &answers)?;
-    let status = verdict_status(&answers);
+    let form = ssa(alloc, typed)?;
+    let list = goals(alloc, &form)?;
+    let answers = answers_to(alloc, &form, &list)?;
+    let text = report_text(alloc, typed, &list, &answers)?;
+    let status = verdict_status(verdict_of(&answers));
     Ok(Reply { status, text })
-}
-
-/// The status and the text for a text that is accepted and well typed.
-fn reply_to_typed(alloc: Global, bytes: &[u8], typed: &Typed) -> Result<Reply, AllocError>
-    requires accepted { headline.IsAccepted bytes.now typed.now }
-    requires typed { IsTyped typed.now }
-    ensures { IfOk result (λ reply. headline.IsAnswered bytes.now reply.status reply.text.items) }
-{
-    match first_outside(typed.program().lines()) {
-        Some(place) => {
-            let text = later_text(alloc, *typed.places().at(place))?;
-            Ok(Reply { status: 10, text })
-        }
-        None => {
-            let reply = report_on(alloc, bytes, typed)?;
-            Ok(reply)
-        }
-    }
 }
 
 /// The status and the text for a text that is accepted.
@@ -84,7 +70,7 @@ fn reply_to_accepted(alloc: Global, bytes: &[u8], parsed: Parsed) -> Result<Repl
 {
     match check(alloc, parsed) {
         Ok(typed) => {
-            let reply = reply_to_typed(alloc, bytes, &typed)?;
+            let reply = report_on(alloc, bytes, &typed)?;
             Ok(reply)
         }
         Err(TypeFault::Ill(number, reason)) => {
@@ -158,11 +144,12 @@ fn nothing(status: u8) -> Done
     Done { status, written: 0 }
 }
 
-/// Reads a program to its end, tries all its inputs, and writes the report.
+/// Reads a program to its end, works on each of its goals, and writes the report.
 ///
-/// The lines that the walk over inputs knows are `in`, `pre`, `mov`, `add`, `sub`, `assert` and `post` lines over types
-/// `u1` to `u8` whose predicates are one comparison of two operands: at most 64, with inputs of at most 12 bits. What was
-/// read has one row, whose text is made whole before the first write.
+/// Each goal is worked on with all that stands before it as hypotheses. It is proved by the intervals of the variables, or
+/// all assignments of its free bits are walked where these are at most 17 and no equation is too wide to be computed; the
+/// first assignment that denies it gives the input that refutes it. What was read has one row, whose text is made whole
+/// before the first write.
 pub fn solo_run<S: Source, K: Sink>(
     alloc: Global,
     words: &[String],
@@ -178,12 +165,12 @@ pub fn solo_run<S: Source, K: Sink>(
     // Words are refused before anything is read.
     ensures unread { 0 < length words.now → source.new ≡ source.old }
     ensures usage { 0 < length words.now → (result.status ≡ 8) ⊎ (result.status ≡ 6) }
-    ensures beyond { (length words.now ≡ 0) → S.given source.old + headline.byte_limit < S.given source.new → (result.status ≡ 9) ⊎ (result.status ≡ 6) ⊎ (result.status ≡ 5) }
+    ensures beyond { (length words.now ≡ 0) → S.given source.old + headline.byte_limit < S.given source.new → (result.status ≡ 9) ⊎ (result.status ≡ 6) }
 
     // A fault has its cause, and out of memory writes nothing.
     ensures read_fault { result.status ≡ 5 → Rose (S.faults source.old) (S.faults source.new) }
     ensures write_fault { result.status ≡ 6 → Rose (K.faults sink.old) (K.faults sink.new) }
-    ensures silent { headline.IsSilent result.status → (K.taken sink.new ≡ K.taken sink.old) × (result.written ≡ 0) }
+    ensures silent { headline.IsSilent result.status → (sink.new ≡ sink.old) × (result.written ≡ 0) }
 
     ensures total { K.held sink.new ≡ K.held sink.old + result.written }
     ensures known { headline.is_status result.status ≡ true }

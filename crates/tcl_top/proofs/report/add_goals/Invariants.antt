@@ -1,9 +1,8 @@
-use Rattle.std.proofs.Common.{◌≡◌, ◌≤◌, ◌++◌, drop}
+-- What is done and what is left make the lines of all goals.
+use Rattle.std.proofs.Common.{◌≡◌, ◌++◌, drop}
 use Rattle.tcl_top.specs.Report.{goals_text}
 use Rattle.tcl_top.proofs.report.add_goals.Given as goal
 
 abbrev pub invariant-loop-k : goal.invariant-loop-k
 invariant-loop-k l =
-    (l.text.items ++ goals_text l.typed.program l.typed.places l.answers l.k l.i (drop l.k l.lines)
-    ≡ l.fn.text.items ++ goals_text l.typed.program l.typed.places l.answers 0 0 l.lines)
-    × (l.i ≤ l.k)
+    l.text.items ++ goals_text l.typed l.answers (drop l.k l.goals) ≡ l.fn.text.items ++ goals_text l.typed l.answers l.goals
