@@ -1,4 +1,4 @@
-//! Reads a program on standard input, tries all its inputs, and writes the report to standard output.
+//! Reads a program on standard input, proves or refutes its goals, and writes the report to standard output.
 //! It ends with the status of the top call.
 #![tactic(auto)]
 
