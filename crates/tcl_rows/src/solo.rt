@@ -554,7 +554,7 @@ fn limits_and_their_edges(rt: HostRuntime) -> Result<(), AllocError> {
 fn all_proved(alloc: Global, goals: u32) -> Result<String, AllocError> {
     let mut text = String::new(alloc);
     for goal in 0..goals {
-        let line = goal + 2;
+        let line = goal as u64 + 2;
         text.push_str(format!(in alloc; "goal {goal} line {line} assert proved\n")?.as_str())?;
     }
     text.push_str("verified\n")?;
