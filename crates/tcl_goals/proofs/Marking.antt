@@ -5,6 +5,7 @@ use Rattle.std.proofs.Math.Seq.{drop-cons}
 use Rattle.std.proofs.lemmas.Bool.{cases_eq}
 use Rattle.std.proofs.lemmas.List.{length-set, length-replicate, get_or-set_same, get_or-set_other}
 use Rattle.tcl_lang.specs.Program.{VersionedProgram}
+use Rattle.tcl_lang.specs.declared.pred.Line.{Line}
 use Rattle.tcl_lang.specs.Defined.{is_among}
 use Rattle.tcl_goals.specs.declared.fact.Bit.{Bit}
 use Rattle.tcl_goals.specs.declared.fact.Fact.{Fact}
@@ -136,3 +137,8 @@ no_bits (c ∷ bits) ys e = ap (λ zs. c ∷ zs) (no_bits bits ys e)
 
 pub ended_bits : (bits all : List Bit) (v w : ℕ) → w ≤ 0 → bits ++ bits_down v w ≡ all → bits ≡ all
 ended_bits bits all v w h i = sym (no_bits bits (bits_down v w) (bits_end v w h)) ∙ i
+
+pub variables_are : (lines : List Line) (lemmas : List Numbered) (fact : Fact) (named : List Bool) (count : ℕ) → named ≡ mark_all (replicate count false) (fact_variables lines lemmas fact) → those_below (is_marked named) count ≡ those_below (is_among (fact_variables lines lemmas fact)) count
+variables_are lines lemmas fact named count n =
+    those_same (is_marked named) (is_among (fact_variables lines lemmas fact)) count
+    (λ v h. ap (λ m. is_marked m v) n ∙ among_marked (fact_variables lines lemmas fact) count v h)

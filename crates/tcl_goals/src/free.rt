@@ -114,7 +114,7 @@ fn is_left(named: &Marks, computed: &Marks, v: usize) -> bool
 
 /// Adds the variables that a fact names.
 #[tactic(auto, using(crate::proofs::Marking::mark_four))]
-fn add_fact(marks: &mut Marks, lines: &[Line], lemmas: &[Numbered], fact: &Fact)
+pub(crate) fn add_fact(marks: &mut Marks, lines: &[Line], lemmas: &[Numbered], fact: &Fact)
     ensures { marks.new.marks ≡ closures.mark_all marks.old.marks (free.fact_variables lines.now lemmas.now fact.now) }
 {
     add_uses(marks, lines, fact.uses.as_slice());

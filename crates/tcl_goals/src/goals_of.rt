@@ -2,6 +2,7 @@
 
 ghost use Rattle.std.specs.Prelude.{◌≡◌, ◌<◌, ◌≤◌, ◌^◌, ◌-◌, IfOk, length};
 ghost use Rattle.tcl_goals.specs.Places as places;
+ghost use Rattle.tcl_goals.specs.Plans as plans;
 
 use crate::goal::{Goal, Goals, Kind};
 use std::alloc::{AllocError, Global};
@@ -62,4 +63,14 @@ pub fn goal_place(lines: &[Line], goal: u32) -> usize
         }
     }
     lines.len()
+}
+
+/// Whether the goal is an algebraic one; an exactness condition is none, and where there is no such goal neither.
+pub fn is_algebraic_goal(lines: &[Line], goal: u32) -> bool
+    ensures { result ≡ plans.is_algebraic_goal lines.now goal }
+{
+    match lines.get(goal_place(lines, goal)) {
+        Some(line) => line.is_algebraic(),
+        None => false,
+    }
 }
