@@ -1,0 +1,3 @@
+pub mod TermPolynomial
+pub mod Point
+pub mod Laws
