@@ -1,0 +1,6 @@
+mod Naming
+mod Reading
+mod TermNames
+mod FactNames
+mod Proving
+mod Holding
