@@ -15,7 +15,7 @@ use Rattle.tcl_goals.specs.Slices.{is_hypothesis_at, is_step_at, whole_fact}
 use Rattle.tcl_goals.proofs.Numbers.{those_none, next_yes, next_no}
 
 -- lines as hypotheses, one more
-appended : (ns : List ℕ) (n : ℕ) → line_hyps (ns ++ n ∷ []) ≡ line_hyps ns ++ hyp.Line n ∷ []
+pub appended : (ns : List ℕ) (n : ℕ) → line_hyps (ns ++ n ∷ []) ≡ line_hyps ns ++ hyp.Line n ∷ []
 appended [] n = refl
 appended (m ∷ ns) n = ap (λ hs. hyp.Line m ∷ hs) (appended ns n)
 

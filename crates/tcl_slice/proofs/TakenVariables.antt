@@ -1,6 +1,6 @@
 -- A variable for which a line takes a value is no result that an instruction computes.
 use Rattle.std.proofs.Common.{◌≡◌, ◌<◌, ◌≤◌, ◌+◌, ◌-◌, inl, inr, ℕ, Bool, true, false, ◌||◌, nat_eq, List, [], ◌∷◌, ◌++◌, length, refl, sym, ◌∙◌, ap, subst, arith, Option, Some, None}
-use Rattle.std.specs.List.{slice_get, flat_map}
+use Rattle.std.specs.List.{slice_get}
 use Rattle.std.specs.Prelude.{is_some}
 use Rattle.std.proofs.lemmas.Bool.{cases_lt}
 use Rattle.std.proofs.lemmas.Bool.Decides.{nat_tests}
@@ -9,7 +9,6 @@ use Rattle.std.proofs.lemmas.List.Concat.{flat_map-cons}
 use Rattle.tcl_lang.specs.declared.ty.Ty.{Ty}
 use Rattle.tcl_lang.specs.declared.instr.Op.{Op}
 use Rattle.tcl_lang.specs.declared.instr.Op.TheVariants.{Nondet}
-use Rattle.tcl_lang.specs.declared.instr.Instr.{Instr}
 use Rattle.tcl_lang.specs.declared.pred.Line.{Line}
 use Rattle.tcl_lang.specs.declared.pred.Line.TheVariants.{Input, Pre, Step, Assert, Assume, Cut, Post}
 use Rattle.tcl_lang.specs.Program.{VersionedProgram}
@@ -27,7 +26,7 @@ use Rattle.tcl_goals.specs.Free.{computed_results, computed_in, computed_variabl
 use Rattle.tcl_slice.proofs.WholeRuns.{line_takes, taking}
 
 -- the variable is the next one
-taken_first : (f : VersionedProgram) (j v : ℕ) (l : Line) → IsWellFormed f → slice_get f.lines j ≡ Some l → taken_name l ≡ Some v → (v ≡ definitions_before f.lines j) × (definitions_before f.lines (j + 1) ≡ v + 1)
+pub taken_first : (f : VersionedProgram) (j v : ℕ) (l : Line) → IsWellFormed f → slice_get f.lines j ≡ Some l → taken_name l ≡ Some v → (v ≡ definitions_before f.lines j) × (definitions_before f.lines (j + 1) ≡ v + 1)
 taken_first f j v l w at n =
     let shape = line_shape (length f.variables) f.lines j l w.runnable at in
     let d = definitions_before f.lines j in

@@ -152,7 +152,7 @@ fits_by g [] h = tt
 fits_by g (l ∷ lines) h =
     fits_cons g (taken_type l) (taken_name l) (taken_types lines) (taken_names lines) (h 0 l refl) (fits_by g lines (λ k m e. h (suc k) m e))
 
-values_fit : (f : VersionedProgram) (values : List ℤ) → IsWellFormed f → AreValues f.variables values → Fits (taken_types f.lines) (input_from f.lines values)
+pub values_fit : (f : VersionedProgram) (values : List ℤ) → IsWellFormed f → AreValues f.variables values → Fits (taken_types f.lines) (input_from f.lines values)
 unfolding input_from
 values_fit f values w a =
     fits_by (λ v. value_at values v) f.lines
@@ -184,14 +184,14 @@ taken_at g (m ∷ lines) (suc k) l v same at n =
     (sum_by-cons (λ x. one_if (is_some (taken_type x))) m (take k lines))
     ∙ taken_at g lines k l v (λ j x e. same (suc j) x e) at n
 
-value_taken : (f : VersionedProgram) (values : List ℤ) (k : ℕ) (l : Line) (v : ℕ) → IsWellFormed f → slice_get f.lines k ≡ Some l → taken_name l ≡ Some v → get_or (input_from f.lines values) (taken_before f.lines k) (pos 0) ≡ value_at values v
+pub value_taken : (f : VersionedProgram) (values : List ℤ) (k : ℕ) (l : Line) (v : ℕ) → IsWellFormed f → slice_get f.lines k ≡ Some l → taken_name l ≡ Some v → get_or (input_from f.lines values) (taken_before f.lines k) (pos 0) ≡ value_at values v
 unfolding input_from
 value_taken f values k l v w at n =
     taken_at (λ v. value_at values v) f.lines k l v
     (λ j m e. line_takes m (line_shape (length f.variables) f.lines j m w.runnable e)) at n
 
 -- words of values are equal where the values are
-words_equal : (vs : List Variable) (a b : List ℤ) (v : ℕ) → AreValues vs a → AreValues vs b → value_at a v ≡ value_at b v → word_at (words_of vs a) v ≡ word_at (words_of vs b) v
+pub words_equal : (vs : List Variable) (a b : List ℤ) (v : ℕ) → AreValues vs a → AreValues vs b → value_at a v ≡ value_at b v → word_at (words_of vs a) v ≡ word_at (words_of vs b) v
 words_equal [] a b v p q e = refl
 words_equal (x ∷ vs) [] b v p q e = absurd p
 words_equal (x ∷ vs) (m ∷ a) [] v p q e = absurd q
@@ -404,6 +404,7 @@ whole_runs p i values w goal has =
     let within = goal_place_below p.lines i goal in
     record {
       fits = fits;
+      defined = agrees p i values (goal_place p.lines i) w within has (omega arith);
       truth = λ k h.
           sym (trace_truth p input k w fits)
           ∙ same_truth p (trace_of p input) values k w typed has.typed (agrees p i values k w within has h);
