@@ -1,0 +1,12 @@
+pub mod Lifted
+pub mod Begin
+pub mod Blasted
+pub mod Clauses
+pub mod Laws
+pub mod Models
+pub mod Ends
+pub mod Ready
+pub mod FreeBits
+pub mod Inputs
+pub mod ModelRuns
+pub mod Sizes
