@@ -1,0 +1,14 @@
+pub mod Firsts
+pub mod OwnLemmas
+pub mod Totals
+pub mod Holding
+pub mod Moving
+pub mod PlanPieces
+pub mod Truthful
+pub mod Sound
+pub mod Keeping
+pub mod Gifts
+pub mod Giving
+pub mod Closing
+pub mod Knowing
+pub mod Ending

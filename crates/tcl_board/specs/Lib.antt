@@ -1,0 +1,15 @@
+pub mod Shows
+pub mod Moves
+pub mod State
+pub mod Own
+pub mod Steps
+pub mod Sight
+pub mod Rooms
+pub mod Truths
+pub mod Covers
+pub mod Kept
+pub mod Answers
+pub mod Judging
+pub mod Told
+pub mod Finished
+pub mod FactLaws
