@@ -1,4 +1,7 @@
 pub mod CitedLists
 pub mod GoalsFound
 pub mod Refutations
+mod SamePolynomials
+pub mod Cofactors
+mod CofactorValues
 pub mod Soundness

@@ -1,5 +1,5 @@
 -- Certificates are sound, and reasons are exact.
-use Rattle.std.proofs.Common.{◌≡◌, ◌↔◌, nat_le, refl, sym, ◌∙◌, ap, Bool, true, false, not, List, length, Option, Some, None, Result, Ok, Err, IfOk}
+use Rattle.std.proofs.Common.{if◌then◌else◌, ℕ, ◌≡◌, ◌↔◌, nat_le, refl, sym, ◌∙◌, ap, Bool, true, false, not, List, length, Option, Some, None, Result, Ok, Err, IfOk}
 use Rattle.std.proofs.lemmas.Bool.{and_parts, and_from, le-leb, leb-true}
 use Rattle.tcl_lang.specs.Program.{VersionedProgram}
 use Rattle.tcl_lang.specs.Form.{IsWellFormed}
@@ -18,6 +18,13 @@ use Rattle.tcl_enum.specs.declared.ended.Ended.TheVariants as ended
 use Rattle.tcl_enum.specs.Enumeration.{ended_of, IsEnd}
 use Rattle.tcl_enum.proofs.Decisions.{all_decides}
 use Rattle.tcl_bounds.proofs.Enclosing.{bounds_decide}
+use Rattle.tcl_cnf.specs.declared.answer.LogAnswer.{LogAnswer}
+use Rattle.tcl_cnf.specs.declared.answer.LogAnswer.TheVariants.{BadLine, NoEnd, Refutes}
+use Rattle.tcl_cnf.specs.Clause.{HaveNoSolution}
+use Rattle.tcl_cnf.specs.Log.{log_answer}
+use Rattle.tcl_cnf.proofs.LogLemmas.{answer_refutes, answer_sound}
+use Rattle.tcl_blast.specs.Clauses.{clauses_of, clause_limit}
+use Rattle.tcl_blast.proofs.Countermodels.{refuted_prove}
 use Rattle.tcl_kernel.specs.declared.reason.Reason.{Reason}
 use Rattle.tcl_kernel.specs.declared.reason.Reason.TheVariants as reason
 use Rattle.tcl_kernel.specs.declared.certificate.Cert.{Cert}
@@ -28,6 +35,8 @@ use Rattle.tcl_kernel.specs.Reasons.{unless, first_of}
 use Rattle.tcl_kernel.specs.Entry.{entry_reason}
 use Rattle.tcl_kernel.specs.BoundsCertificate.{is_algebraic_claim, BoundsCheck, is_bounded, bounds_reason}
 use Rattle.tcl_kernel.specs.EnumerationCertificate.{EnumerationChecks, is_all, is_enumerated, enumeration_reason}
+use Rattle.tcl_kernel.proofs.Cofactors.{cofactors_exact, cofactors_sound}
+use Rattle.tcl_kernel.specs.LogCertificate.{LogCheck, has_clauses, reason_of, log_reason}
 use Rattle.tcl_kernel.specs.Certificates.{CertificateChecks, Checks, certificate_reason, first_reason}
 
 -- there is no reason exactly where each test is met
@@ -121,10 +130,55 @@ enumeration_exact p lemmas fact w o = (checks, none)
 pub enumeration_sound : (p : VersionedProgram) (lemmas : List Numbered) (fact : Fact) → IsWellFormed p → EnumerationChecks p lemmas fact → FactHolds p lemmas fact
 enumeration_sound p lemmas fact w c = assignments_decide p lemmas fact w c.all
 
+-- logs
+pub refuting : (a : LogAnswer) → reason_of a ≡ None → a ≡ Refutes
+refuting (BadLine k) e = absurd (cc)
+refuting NoEnd e = absurd (cc)
+refuting Refutes e = refl
+
+no_reason : (b : Bool) (o : Option Reason) (r : Reason) → (if b then o else Some r) ≡ None → (b ≡ true) × (o ≡ None)
+no_reason true o r e = (refl, e)
+no_reason false o r e = absurd (cc)
+
+reason_free : (b : Bool) (o : Option Reason) (r : Reason) → b ≡ true → o ≡ None → (if b then o else Some r) ≡ None
+reason_free true o r e f = f
+reason_free false o r e f = absurd (cc)
+
+pub log_exact : (p : VersionedProgram) (lemmas : List Numbered) (fact : Fact) (lines : List (List ℕ)) → (log_reason p lemmas fact lines ≡ None) ↔ LogCheck p lemmas fact lines
+unfolding log_reason
+log_exact p lemmas fact lines = (checks, none)
+  where
+    clauses : List (List ℕ)
+    clauses = clauses_of p lemmas fact
+
+    checks : (if has_clauses p lemmas fact then reason_of (log_answer clauses lines) else Some reason.LogSize) ≡ None → LogCheck p lemmas fact lines
+    checks e =
+        let both = no_reason (has_clauses p lemmas fact) (reason_of (log_answer clauses lines)) reason.LogSize e in
+        let parts = and_parts (not (is_algebraic_claim p.lines fact.claim)) (nat_le (length clauses) clause_limit) both.0 in
+        let refutes = (answer_refutes clauses lines (log_answer clauses lines) refl).0 (refuting (log_answer clauses lines) both.1) in
+        record { range = not_true _ parts.0; few = leb-true _ _ parts.1; refutes = refutes }
+
+    none : LogCheck p lemmas fact lines → (if has_clauses p lemmas fact then reason_of (log_answer clauses lines) else Some reason.LogSize) ≡ None
+    none c =
+        reason_free (has_clauses p lemmas fact) (reason_of (log_answer clauses lines)) reason.LogSize
+        (and_from _ _ (not_false _ c.range) (le-leb (length clauses) clause_limit c.few))
+        (ap reason_of ((answer_refutes clauses lines (log_answer clauses lines) refl).1 c.refutes))
+
+pub refutation_shown : (p : VersionedProgram) (lemmas : List Numbered) (fact : Fact) → IsWellFormed p → InOrder p lemmas fact → HaveNoSolution (clauses_of p lemmas fact) → FactHolds p lemmas fact
+refutation_shown p lemmas fact w o none = assignments_decide p lemmas fact w (refuted_prove p lemmas fact w o none)
+
+pub log_sound : (p : VersionedProgram) (lemmas : List Numbered) (fact : Fact) (lines : List (List ℕ)) → IsWellFormed p → InOrder p lemmas fact → LogCheck p lemmas fact lines → FactHolds p lemmas fact
+log_sound p lemmas fact lines w o c =
+    let clauses = clauses_of p lemmas fact in
+    let refutes = (answer_refutes clauses lines (log_answer clauses lines) refl).1 c.refutes in
+    refutation_shown p lemmas fact w o (answer_sound clauses lines (log_answer clauses lines) refl refutes)
+
 -- all kinds
 certificate_exact : (p : VersionedProgram) (earlier : Earlier) (fact : Fact) (c : Cert) → IsWellFormed p → InOrder p earlier.lemmas fact → (certificate_reason p earlier fact c ≡ None) ↔ CertificateChecks p earlier fact c
 certificate_exact p earlier fact cert.Bounds w o = bounds_exact p fact
 certificate_exact p earlier fact cert.Enumerated w o = enumeration_exact p earlier.lemmas fact w o
+certificate_exact p earlier fact (cert.Log lines) w o = log_exact p earlier.lemmas fact lines
+certificate_exact p earlier fact (cert.Cofactors lines) w o = cofactors_exact p earlier.lemmas fact lines
 
 pub reasons_exact : (p : VersionedProgram) (earlier : Earlier) (fact : Fact) (c : Cert) → IsWellFormed p → (first_reason p earlier fact c ≡ None) ↔ Checks p earlier fact c
 unfolding first_reason
@@ -139,12 +193,14 @@ reasons_exact p earlier fact c w = (checks, none)
     none : Checks p earlier fact c → first_of (entry_reason p earlier.lemmas fact) (certificate_reason p earlier fact c) ≡ None
     none k = none_first _ _ (order_entry p earlier.lemmas fact k.order) ((certificate_exact p earlier fact c w k.order).1 k.certificate)
 
-pub certificate_sound : (p : VersionedProgram) (earlier : Earlier) (fact : Fact) (c : Cert) → IsWellFormed p → CertificateChecks p earlier fact c → FactHolds p earlier.lemmas fact
-certificate_sound p earlier fact cert.Bounds w k = bounds_sound p earlier.lemmas fact w k
-certificate_sound p earlier fact cert.Enumerated w k = enumeration_sound p earlier.lemmas fact w k
+pub certificate_sound : (p : VersionedProgram) (earlier : Earlier) (fact : Fact) (c : Cert) → IsWellFormed p → InOrder p earlier.lemmas fact → CertificateChecks p earlier fact c → FactHolds p earlier.lemmas fact
+certificate_sound p earlier fact cert.Bounds w o k = bounds_sound p earlier.lemmas fact w k
+certificate_sound p earlier fact cert.Enumerated w o k = enumeration_sound p earlier.lemmas fact w k
+certificate_sound p earlier fact (cert.Log lines) w o k = log_sound p earlier.lemmas fact lines w o k
+certificate_sound p earlier fact (cert.Cofactors lines) w o k = cofactors_sound p earlier.lemmas fact lines w k
 
 pub checks_sound : (p : VersionedProgram) (earlier : Earlier) (fact : Fact) (c : Cert) → IsWellFormed p → Checks p earlier fact c → Stands p earlier.lemmas fact
-checks_sound p earlier fact c w k = record { order = k.order; holds = certificate_sound p earlier fact c w k.certificate }
+checks_sound p earlier fact c w k = record { order = k.order; holds = certificate_sound p earlier fact c w k.order k.certificate }
 
 -- what the code has to show, in its own terms
 pub bounds_shown : (p : VersionedProgram) (fact : Fact) (bounds : List Interval) → IsWellFormed p → bounds ≡ bounds_of p fact → follows_of bounds p fact.claim ≡ true → (lemmas : List Numbered) → FactHolds p lemmas fact

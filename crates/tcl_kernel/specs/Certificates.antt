@@ -11,11 +11,15 @@ use Rattle.tcl_kernel.specs.Reasons.{first_of}
 use Rattle.tcl_kernel.specs.Entry.{entry_reason}
 use Rattle.tcl_kernel.specs.BoundsCertificate.{BoundsCheck, bounds_reason}
 use Rattle.tcl_kernel.specs.EnumerationCertificate.{EnumerationChecks, enumeration_reason}
+use Rattle.tcl_kernel.specs.LogCertificate.{LogCheck, log_reason}
+use Rattle.tcl_kernel.specs.CofactorCertificate.{CofactorCheck, cofactor_reason}
 
 -- the certificate shows the fact
 abbrev pub CertificateChecks : VersionedProgram → Earlier → Fact → Cert → Type 0
 CertificateChecks p earlier fact cert.Bounds = BoundsCheck p fact
 CertificateChecks p earlier fact cert.Enumerated = EnumerationChecks p earlier.lemmas fact
+CertificateChecks p earlier fact (cert.Log lines) = LogCheck p earlier.lemmas fact lines
+CertificateChecks p earlier fact (cert.Cofactors lines) = CofactorCheck p earlier.lemmas fact lines
 
 -- the fact is in order, and its certificate shows it
 pub record Checks (p : VersionedProgram) (earlier : Earlier) (fact : Fact) (c : Cert) : Type 0 where
@@ -26,6 +30,8 @@ pub record Checks (p : VersionedProgram) (earlier : Earlier) (fact : Fact) (c : 
 abbrev pub certificate_reason : VersionedProgram → Earlier → Fact → Cert → Option Reason
 certificate_reason p earlier fact cert.Bounds = bounds_reason p fact
 certificate_reason p earlier fact cert.Enumerated = enumeration_reason p earlier.lemmas fact
+certificate_reason p earlier fact (cert.Log lines) = log_reason p earlier.lemmas fact lines
+certificate_reason p earlier fact (cert.Cofactors lines) = cofactor_reason p earlier.lemmas fact lines
 
 -- the first reason against the fact with its certificate: the reasons of the fact by itself come first
 unfoldable pub first_reason : VersionedProgram → Earlier → Fact → Cert → Option Reason

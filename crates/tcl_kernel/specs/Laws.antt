@@ -14,6 +14,9 @@ use Rattle.tcl_kernel.specs.Cited.{cited_lemmas}
 use Rattle.tcl_kernel.specs.Entry.{entry_reason}
 use Rattle.tcl_kernel.specs.BoundsCertificate.{BoundsCheck}
 use Rattle.tcl_kernel.specs.EnumerationCertificate.{EnumerationChecks}
+use Rattle.tcl_kernel.specs.LogCertificate.{LogCheck}
+use Rattle.tcl_remainder.specs.declared.lines.CofactorLine.{CofactorLine}
+use Rattle.tcl_kernel.specs.CofactorCertificate.{CofactorCheck}
 use Rattle.tcl_kernel.specs.Certificates.{Checks, first_reason}
 use Rattle.tcl_kernel.specs.Counterexample.{BreakChecks}
 
@@ -39,6 +42,16 @@ abbrev pub EnumerationIsSound : Type 0
 EnumerationIsSound =
     (p : VersionedProgram) (lemmas : List Numbered) (fact : Fact) → IsWellFormed p → EnumerationChecks p lemmas fact →
     FactHolds p lemmas fact
+
+abbrev pub LogsAreSound : Type 0
+LogsAreSound =
+    (p : VersionedProgram) (lemmas : List Numbered) (fact : Fact) (lines : List (List ℕ)) → IsWellFormed p →
+    InOrder p lemmas fact → LogCheck p lemmas fact lines → FactHolds p lemmas fact
+
+abbrev pub CofactorsAreSound : Type 0
+CofactorsAreSound =
+    (p : VersionedProgram) (lemmas : List Numbered) (fact : Fact) (lines : List CofactorLine) → IsWellFormed p →
+    CofactorCheck p lemmas fact lines → FactHolds p lemmas fact
 
 -- so a fact that checks stands under the lemmas, and under those that it cites
 abbrev pub ChecksAreSound : Type 0

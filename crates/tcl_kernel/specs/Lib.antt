@@ -5,6 +5,9 @@ pub mod Reasons
 pub mod Entry
 pub mod BoundsCertificate
 pub mod EnumerationCertificate
+pub mod LogCertificate
+pub mod SamePolynomials
+pub mod CofactorCertificate
 pub mod Certificates
 pub mod Counterexample
 pub mod Answers

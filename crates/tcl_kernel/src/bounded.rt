@@ -8,7 +8,7 @@ ghost use Rattle.tcl_kernel.specs.BoundsCertificate as intervals;
 use crate::reason::Reason;
 use std::alloc::{AllocError, Global};
 use tcl_bounds::{bounds, follows};
-use tcl_goals::{Claim, Fact, goal_place};
+use tcl_goals::{Claim, Fact, is_algebraic_goal};
 use tcl_lang::{Line, Ssa};
 
 /// The reason against the certificate: the claim is algebraic, or does not follow from the intervals. The only error is
@@ -35,14 +35,11 @@ pub(crate) fn bounds_reason(
 }
 
 /// Whether the claim is an algebraic goal.
-fn is_algebraic_claim(lines: &[Line], claim: &Claim) -> bool
+pub(crate) fn is_algebraic_claim(lines: &[Line], claim: &Claim) -> bool
     ensures { result ≡ intervals.is_algebraic_claim lines.now claim.now }
 {
     match claim {
-        Claim::Goal(goal) => match lines.get(goal_place(lines, *goal)) {
-            Some(line) => line.is_algebraic(),
-            None => false,
-        },
+        Claim::Goal(goal) => is_algebraic_goal(lines, *goal),
         Claim::Lemma(_) => false,
     }
 }

@@ -11,9 +11,11 @@ ghost use Rattle.tcl_kernel.specs.Certificates as words;
 use crate::answer::Answer;
 use crate::bounded::bounds_reason;
 use crate::certificate::Cert;
+use crate::cofactored::cofactor_reason;
 use crate::entry::entry_reason;
 use crate::enumerated::enumeration_reason;
 use crate::facts::Facts;
+use crate::logged::log_reason;
 use crate::proof::Proof;
 use crate::reason::Reason;
 use std::alloc::{AllocError, Global};
@@ -66,6 +68,8 @@ fn certificate_reason(
     match cert {
         Cert::Bounds => bounds_reason(alloc, ssa, fact),
         Cert::Enumerated => enumeration_reason(alloc, ssa, earlier.lemmas(), fact),
+        Cert::Log(lines) => log_reason(alloc, ssa, earlier.lemmas(), fact, lines),
+        Cert::Cofactors(lines) => cofactor_reason(alloc, ssa, earlier.lemmas(), fact, lines),
     }
 }
 

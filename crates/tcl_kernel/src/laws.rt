@@ -12,6 +12,8 @@ pub fn reasons_are_exact()
 pub fn certificates_are_sound()
     ensures bounds { laws.BoundsAreSound }
     ensures enumeration { laws.EnumerationIsSound }
+    ensures logs { laws.LogsAreSound }
+    ensures cofactors { laws.CofactorsAreSound }
     ensures checks { laws.ChecksAreSound }
     ensures cited { laws.CitedAreEnough }
 {}

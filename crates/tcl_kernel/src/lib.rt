@@ -6,11 +6,13 @@ mod bounded;
 mod certificate;
 mod checker;
 mod cited;
+mod cofactored;
 mod counterexample;
 mod entry;
 mod enumerated;
 mod facts;
 mod laws;
+mod logged;
 mod proof;
 mod reason;
 

@@ -18,6 +18,17 @@ pub enum Reason {
     Bounds,
     /// There are more than 20 free bits, a line is wide, or an assignment fails.
     Enum,
+    /// The claim is algebraic, or the fact has more than 4,194,304 clauses.
+    LogSize,
+    /// The line of this number, counted from 0, is the first that is no chain.
+    Log(usize),
+    /// All lines are chains, and none derives the empty clause.
+    LogEnd,
+    /// The claim is no equation, or one that is wide or large; an equation's number is out of range, the degrees of a cofactor
+    /// and its equation add to more than 1,024, or the sum of the products is not the claim's polynomial.
+    Cofactors,
+    /// Over whole numbers the sum of the products of the norms is 2^127 or more.
+    Wide,
     /// The input does not fit, or does not break the goal.
     Break,
 }

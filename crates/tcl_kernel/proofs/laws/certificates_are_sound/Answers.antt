@@ -1,5 +1,6 @@
 -- The laws are lemmas.
-use Rattle.tcl_kernel.proofs.Soundness.{bounds_sound, enumeration_sound, checks_sound}
+use Rattle.tcl_kernel.proofs.Soundness.{bounds_sound, enumeration_sound, log_sound, checks_sound}
+use Rattle.tcl_kernel.proofs.Cofactors.{cofactors_sound}
 use Rattle.tcl_kernel.proofs.CitedLists.{stands_cited}
 use Rattle.tcl_kernel.proofs.laws.certificates_are_sound.Goals as goal
 
@@ -8,6 +9,12 @@ returns-clause-bounds c = bounds_sound
 
 pub returns-clause-enumeration : goal.returns-clause-enumeration
 returns-clause-enumeration c = enumeration_sound
+
+pub returns-clause-logs : goal.returns-clause-logs
+returns-clause-logs c = log_sound
+
+pub returns-clause-cofactors : goal.returns-clause-cofactors
+returns-clause-cofactors c = cofactors_sound
 
 pub returns-clause-checks : goal.returns-clause-checks
 returns-clause-checks c = checks_sound
