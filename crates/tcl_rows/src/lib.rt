@@ -4,4 +4,8 @@
 #[cfg(test)]
 mod canonical;
 #[cfg(test)]
+mod ranges;
+#[cfg(test)]
+mod settled;
+#[cfg(test)]
 mod solo;

@@ -1,5 +1,5 @@
 -- One answer more, and all answers of a form as answers of its program.
-use Rattle.std.proofs.Common.{◌≡◌, ◌↔◌, ◌<◌, ◌+◌, ◌⊎◌, inl, inr, ℕ, zero, suc, ℤ, List, [], ◌∷◌, ◌++◌, length, refl, sym, ◌∙◌, ap, subst, arith, Some}
+use Rattle.std.proofs.Common.{◌≡◌, ◌↔◌, ◌⊎◌, inl, inr, ℕ, zero, suc, ℤ, List, [], ◌∷◌, ◌++◌, length, refl, sym, ◌∙◌, ap, subst, Some}
 use Rattle.std.specs.List.{slice_get}
 use Rattle.tcl_lang.specs.declared.pred.Line.{Line}
 use Rattle.tcl_lang.specs.Program.{NamedProgram, VersionedProgram}
@@ -43,5 +43,5 @@ answers_of_program p form answers same refuted are_true = record {
   answer = λ i a at.
       let t = are_true.answer i a at in
       subst (λ (f : VersionedProgram). IsTrueAnswer (length p.names) p.lines f i a) same
-      (record { tells = told (length form.variables) (length p.names) form.lines p.lines i a (λ input. refuted input i) t.tells; later = t.later; first = t.first });
+      (record { tells = told (length form.variables) (length p.names) form.lines p.lines i a (λ input. refuted input i) t.tells; left = t.left; algebraic = t.algebraic; searched = t.searched; units = t.units; first = t.first; reduced = t.reduced; tried = t.tried });
 }

@@ -1,5 +1,5 @@
 -- The input of an assignment that denies the whole fact of a goal, none of whose lines is too wide, checks against the goal.
-use Rattle.std.proofs.Common.{◌≡◌, ◌<◌, ◌≤◌, ◌≢◌, ℕ, zero, suc, ℤ, Bool, true, false, ◌&&◌, ◌||◌, List, [], ◌∷◌, length, map, refl, sym, ◌∙◌, ap, subst, arith, Option, Some, None}
+use Rattle.std.proofs.Common.{◌≡◌, ◌<◌, ◌≢◌, ℕ, zero, suc, ℤ, Bool, true, false, ◌&&◌, ◌||◌, List, [], ◌∷◌, refl, sym, ◌∙◌, ap, subst, arith, Option, Some, None}
 use Rattle.std.specs.Prelude.{not}
 use Rattle.std.specs.List.{slice_get, list_all}
 use Rattle.std.proofs.lemmas.Bool.{and_parts}
@@ -8,7 +8,7 @@ use Rattle.tcl_lang.specs.declared.outcome.Truth.TheVariants.{Yes, No, Wide}
 use Rattle.tcl_lang.specs.declared.pred.Line.{Line}
 use Rattle.tcl_lang.specs.Program.{VersionedProgram}
 use Rattle.tcl_lang.specs.Line.{is_precondition, is_assumption, is_goal, is_hypothesis}
-use Rattle.tcl_lang.specs.Goal.{passes, is_precondition_at, is_assumption_at, is_goal_at}
+use Rattle.tcl_lang.specs.Goal.{passes}
 use Rattle.tcl_lang.specs.Values.{types_of, words_of, AreValues, truth_of, computed_of}
 use Rattle.tcl_lang.specs.Checked.{computed_in}
 use Rattle.tcl_lang.specs.Goal.{truth_in}

@@ -1,5 +1,5 @@
 -- What the answers of the kernel say of the whole fact of a goal.
-use Rattle.std.proofs.Common.{◌≡◌, ℕ, ℤ, Bool, true, false, List, [], length, refl, sym, ◌∙◌, ap, subst, Option, None, Some}
+use Rattle.std.proofs.Common.{◌≡◌, ◌≤◌, ℕ, ℤ, Bool, true, false, List, [], length, sym, ◌∙◌, ap, subst}
 use Rattle.std.specs.Prelude.{is_none}
 use Rattle.tcl_lang.specs.Program.{VersionedProgram}
 use Rattle.tcl_lang.specs.Correct.{IsCounterexample}
@@ -21,9 +21,14 @@ use Rattle.tcl_kernel.specs.Certificates.{first_reason}
 use Rattle.tcl_kernel.specs.Cited.{cited_lemmas, proof_of}
 use Rattle.tcl_kernel.specs.Counterexample.{BreakChecks, IsBreakReason, break_proof}
 use Rattle.tcl_kernel.specs.Shown.{ProofContent, Stands, ShownHolds}
+use Rattle.tcl_cnf.specs.declared.answer.LogAnswer.TheVariants.{Refutes}
+use Rattle.tcl_cnf.specs.Log.{log_answer}
+use Rattle.tcl_goals.specs.Plans.{is_algebraic_goal}
+use Rattle.tcl_blast.specs.Clauses.{clause_limit}
 use Rattle.tcl_top.specs.Left.{is_settled_by_bounds}
+use Rattle.tcl_top.specs.Searched.{whole_clauses}
 use Rattle.tcl_top.proofs.WholeFacts.{whole_in_order}
-use Rattle.tcl_top.proofs.Settling.{beginning, bounds_tell, walk_tells}
+use Rattle.tcl_top.proofs.Settling.{beginning, bounds_tell, walk_tells, log_tells}
 
 -- a proof of a fact
 pub shown_stands : (p : VersionedProgram) (q : ProofContent) (earlier : Earlier) (fact copy : Fact) → earlier ≡ beginning p → copy ≡ fact → q ≡ proof_of p earlier.lemmas copy → ShownHolds q.program q.cited q.shown → Stands p [] fact
@@ -51,6 +56,11 @@ no_reason p i input reason.Uses goal checks bad = bad
 no_reason p i input reason.Cube goal checks bad = bad
 no_reason p i input reason.Bounds goal checks bad = bad
 no_reason p i input reason.Enum goal checks bad = bad
+no_reason p i input reason.LogSize goal checks bad = bad
+no_reason p i input (reason.Log k) goal checks bad = bad
+no_reason p i input reason.LogEnd goal checks bad = bad
+no_reason p i input reason.Cofactors goal checks bad = bad
+no_reason p i input reason.Wide goal checks bad = bad
 no_reason p i input reason.Break goal checks bad = bad.1 checks
 
 -- the tests of the two certificates
@@ -63,6 +73,12 @@ pub walk_says : (p : VersionedProgram) (i : ℕ) (earlier : Earlier) (fact : Fac
 walk_says p i earlier fact b w goal begins same e =
     sym (e ∙ ap (λ (x : Earlier). is_none (first_reason p x fact cert.Enumerated)) begins
     ∙ ap (λ (f : Fact). is_none (first_reason p (beginning p) f cert.Enumerated)) same ∙ walk_tells p i w goal)
+
+pub log_says : (p : VersionedProgram) (i : ℕ) (earlier : Earlier) (fact : Fact) (lines : List (List ℕ)) (b : Bool) → IsWellFormed p → has_goal p.lines i ≡ true → earlier ≡ beginning p → fact ≡ whole_fact p i → is_algebraic_goal p.lines i ≡ false → length (whole_clauses p i) ≤ clause_limit → log_answer (whole_clauses p i) lines ≡ Refutes → b ≡ is_none (first_reason p earlier fact (cert.Log lines)) → b ≡ true
+log_says p i earlier fact lines b w goal begins same range few refutes e =
+    e ∙ ap (λ (x : Earlier). is_none (first_reason p x fact (cert.Log lines))) begins
+    ∙ ap (λ (f : Fact). is_none (first_reason p (beginning p) f (cert.Log lines))) same
+    ∙ ap is_none (log_tells p i lines w goal range few refutes)
 
 -- the fact under the lemmas of the beginning
 pub ordered_here : (p : VersionedProgram) (i : ℕ) (lemmas : List Numbered) (fact : Fact) → IsWellFormed p → has_goal p.lines i ≡ true → lemmas ≡ [] → fact ≡ whole_fact p i → InOrder p lemmas fact

@@ -1,5 +1,5 @@
 -- The input that is made of the free values of an assignment is that of the assignment.
-use Rattle.std.proofs.Common.{◌≡◌, ◌<◌, ◌≢◌, ℕ, suc, ℤ, pos, Bool, true, false, cond, nat_eq, List, [], ◌∷◌, length, map, set, get_or, replicate, refl, sym, ◌∙◌, ap, subst, arith, Option, Some, None, if◌then◌else◌}
+use Rattle.std.proofs.Common.{◌≡◌, ◌<◌, ℕ, suc, ℤ, pos, Bool, true, false, cond, nat_eq, List, [], ◌∷◌, length, map, set, replicate, refl, sym, ◌∙◌, ap, arith, Option, Some, None, if◌then◌else◌}
 use Rattle.std.specs.Prelude.{find}
 use Rattle.std.specs.List.{slice_get, cons_option}
 use Rattle.std.proofs.lemmas.Bool.{eqb-true}
@@ -20,7 +20,6 @@ use Rattle.tcl_goals.specs.Assignments.{Assigns}
 use Rattle.tcl_slice.specs.Runs.{taken_names, input_from}
 use Rattle.tcl_slice.proofs.TakenVariables.{taken_not_computed, taken_within}
 use Rattle.tcl_enum.specs.declared.ended.FreeValue.{FreeValue}
-use Rattle.tcl_enum.specs.declared.ended.Ended.{Ended}
 use Rattle.tcl_enum.specs.declared.ended.Ended.TheVariants as ended
 use Rattle.tcl_enum.specs.NarrowFact.{is_narrow_fact}
 use Rattle.tcl_enum.specs.Patterns.{given, free_values, assignment, assignment_count}

@@ -3,7 +3,9 @@ pub mod FormGoals
 pub mod AllAnswers
 pub mod InputLines
 pub mod WholeFacts
+pub mod Conflicts
 pub mod Settling
+pub mod ZeroReductions
 pub mod FirstInputs
 pub mod Breaking
 pub mod Checks

@@ -10,7 +10,7 @@ use Rattle.tcl_goals.specs.declared.piece.Verdict.TheVariants as verdict
 use Rattle.tcl_goals.proofs.GoalPlaces.{goal_number_below}
 use Rattle.tcl_top.specs.declared.answer.Answer.{Answer}
 use Rattle.tcl_top.specs.declared.answer.Answer.TheVariants.{Proved, Refuted, Later}
-use Rattle.tcl_top.specs.Answers.{AreTrueAnswers, is_refuted, is_later, any_refuted, any_later, verdict_of}
+use Rattle.tcl_top.specs.Answers.{AreTrueAnswers, is_refuted, is_later, any_refuted, any_later}
 use Rattle.tcl_top.specs.Headline.{IsAnswered, ReadsCorrect, verdict_status}
 
 none_right : (a b : Bool) → (a || b) ≡ false → b ≡ false

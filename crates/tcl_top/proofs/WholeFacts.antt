@@ -11,7 +11,7 @@ use Rattle.tcl_goals.specs.Places.{has_goal}
 use Rattle.tcl_goals.specs.Order.{InOrder}
 use Rattle.tcl_goals.specs.Holds.{AreSound, IsGoalSound, cube_holds}
 use Rattle.tcl_goals.specs.Slices.{whole_fact}
-use Rattle.tcl_goals.specs.Plans.{IsPiece, piece_fact}
+use Rattle.tcl_goals.specs.Plans.{piece_fact}
 use Rattle.tcl_goals.proofs.PieceOrder.{piece_in_order}
 use Rattle.tcl_goals.proofs.FactsGood.{piece_fact_holds, sound_goal_unbroken}
 use Rattle.tcl_kernel.specs.Shown.{Stands}

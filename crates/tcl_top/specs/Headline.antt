@@ -1,5 +1,5 @@
 -- What the top call answers for the bytes that it reads: a status and a text.
-use Rattle.std.specs.Prelude.{◌≡◌, ◌⊎◌, ◌<◌, ◌≤◌, ◌+◌, ℕ, ℤ, Bool, true, false, if◌then◌else◌, ◌==◌, ◌||◌, codes, List, [], ◌∷◌, ◌++◌, length, take, slice_get, Option, Some}
+use Rattle.std.specs.Prelude.{◌≡◌, ◌⊎◌, ◌<◌, ◌≤◌, ◌+◌, ℕ, Bool, true, false, ◌==◌, ◌||◌, codes, List, [], ◌∷◌, ◌++◌, length, take, Option}
 use Rattle.std.specs.Fmt.{decimal}
 use Rattle.tcl_io.specs.Source.{then_left, IsEmptied}
 use Rattle.tcl_io.specs.Sink.{and_then}

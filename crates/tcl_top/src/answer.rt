@@ -13,7 +13,7 @@ pub enum Answer {
     Proved,
     /// The input refutes it.
     Refuted(Input),
-    /// Neither the intervals nor a walk of its assignments settle it.
+    /// Nothing that was tried settles it.
     Later,
 }
 

@@ -14,6 +14,7 @@ ghost use Rattle.tcl_top.specs.Left as left;
 
 use crate::answer::Answer;
 use crate::found::input_of;
+use crate::searching::searched;
 use std::alloc::{AllocError, Global};
 use tcl_enum::{Ended, FreeValues, enumerate};
 use tcl_goals::{Fact, free_bits};
@@ -25,7 +26,7 @@ use tcl_slice::whole;
 const WALKED: usize = 17;
 
 /// The answer for a goal: its whole fact is tried by the intervals, and then all assignments of its free bits are walked,
-/// where they are at most 17 and no equation is too wide. What was found the kernel checks.
+/// where they are at most 17 and no equation is too wide; what is left then is searched. What was found the kernel checks.
 pub(crate) fn attempt(
     alloc: Global,
     ssa: &Ssa,
@@ -54,7 +55,7 @@ fn know(ssa: &Ssa)
 }
 
 /// Whether the kernel takes a certificate of a fact.
-fn is_shown(
+pub(crate) fn is_shown(
     alloc: Global,
     ssa: &Ssa,
     earlier: &Facts,
@@ -92,7 +93,8 @@ fn walk(
 {
     let bits = free_bits(alloc, ssa, earlier.lemmas(), fact)?;
     if bits.len() > WALKED {
-        return Ok(Answer::Later);
+        let answer = searched(alloc, ssa, earlier, fact, goal)?;
+        return Ok(answer);
     }
     let ended = enumerate(alloc, ssa, fact, earlier.lemmas());
     match &ended {
@@ -104,7 +106,10 @@ fn walk(
             let answer = refuted(alloc, ssa, goal, free)?;
             Ok(answer)
         }
-        Ended::Wide => Ok(Answer::Later),
+        Ended::Wide => {
+            let answer = searched(alloc, ssa, earlier, fact, goal)?;
+            Ok(answer)
+        }
         Ended::Memory => Err(AllocError),
     }
 }

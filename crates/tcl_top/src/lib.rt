@@ -6,9 +6,13 @@ mod answering;
 mod attempt;
 mod found;
 mod inputs;
+mod reducing;
 mod refusal;
 mod report;
+mod searching;
 mod solo;
+mod trying;
+mod unstopped;
 
 pub use answer::Answer;
 pub use solo::{Done, solo_run};

@@ -1,8 +1,7 @@
 -- Each goal of the list is one of the form's, under its own number.
-use Rattle.std.proofs.Common.{rules, ◌≡◌, ◌∙◌, refl, ap, subst, sym, arith, length, true, [], ◌∷◌, ◌++◌, ◌+◌, Some}
+use Rattle.std.proofs.Common.{rules, ◌≡◌, ◌∙◌, ap, subst, sym, arith, length, [], ◌∷◌, ◌++◌, ◌+◌, Some}
 use Rattle.std.specs.List.{slice_get}
 use Rattle.std.proofs.lemmas.List.{length-append}
-use Rattle.tcl_goals.specs.Places.{goals_of, has_goal}
 use Rattle.tcl_top.specs.Answers.{AreTrueSoFar, IsTrueAnswer}
 use Rattle.tcl_top.proofs.FormGoals.{goal_there, goal_number, goals_count}
 use Rattle.tcl_top.proofs.AllAnswers.{none_yet, one_more}

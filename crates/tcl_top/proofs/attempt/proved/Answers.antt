@@ -8,7 +8,7 @@ use Rattle.tcl_top.proofs.attempt.proved.Goals as goal
 
 pub returns-then-branch : goal.returns-then-branch
 returns-then-branch c =
-    proved_by_walk c.args.ssa.now c.args.goal
+    proved_by_walk c.args.ssa.now c.args.goal c.requires.formed c.requires.goal
     (subst (λ (f : Fact). Stands c.args.ssa.now [] f) c.requires.fact (c.in_ok-is_shown.ensures.stands c.if-branch.true))
     c.requires.few c.requires.all
 

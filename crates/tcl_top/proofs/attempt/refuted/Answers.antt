@@ -14,7 +14,7 @@ returns-in-Proof c =
     let found = found_checks p c.args.goal c.args.free.now c.lines.ensures.well_formed c.requires.goal c.requires.fails in
     let same : input ≡ input_of c.args.free.now p.lines =
     c.in_ok-input.ensures ∙ ap (λ free. input_of free c.lines.result.now) c.as_slice.ensures ∙ ap (input_of c.args.free.now) c.lines.ensures.lines in
-    refuted_by_walk p c.args.goal input c.args.free.now
+    refuted_by_walk p c.args.goal input c.args.free.now c.lines.ensures.well_formed c.requires.goal
     (shown_refutes p c.args.goal c.in-Proof.proof input c.in_ok-copy.field-0 c.in_ok-copy.ensures.copy c.in-Proof.ensures.1 c.shown-shown.ensures.holds)
     c.requires.few c.requires.fails (subst (IsFirstInput p c.args.goal) (sym same) found.1)
 

@@ -10,8 +10,8 @@ use Rattle.tcl_top.proofs.Checks.{ordered_here, end_wide}
 use Rattle.tcl_top.proofs.Settling.{left_by_bits, left_by_width}
 use Rattle.tcl_top.proofs.attempt.walk.Goals as goal
 
-pub returns-then-len-gt-WALKED : goal.returns-then-len-gt-WALKED
-returns-then-len-gt-WALKED c =
+pub searched-requires-clause-open : goal.searched-requires-clause-open
+searched-requires-clause-open c =
     let p = c.args.ssa.now in
     let none = c.lemmas.ensures ∙ ap (λ (e : Earlier). e.lemmas) c.requires.earlier in
     let same : c.in_ok-bits.bits ≡ free_bits p [] (whole_fact p c.args.goal) =
@@ -24,8 +24,8 @@ enumerate-ended-requires-clause-order c =
     ordered_here c.args.ssa.now c.args.goal c.lemmas-2.result.now.items c.args.fact.now c.requires.formed c.requires.goal
     (c.lemmas-2.ensures ∙ ap (λ (e : Earlier). e.lemmas) c.requires.earlier) c.requires.fact
 
-pub returns-in-Wide : goal.returns-in-Wide
-returns-in-Wide c =
+pub searched-requires-in-Wide-clause-open : goal.searched-requires-in-Wide-clause-open
+searched-requires-in-Wide-clause-open c =
     let p = c.args.ssa.now in
     let none = c.lemmas-2.ensures ∙ ap (λ (e : Earlier). e.lemmas) c.requires.earlier in
     let wide : ended_of p c.lemmas-2.result.now.items c.args.fact.now ≡ ended.Wide = end_wide _ _ c.enumerate-ended.ensures c.in-Wide.is in

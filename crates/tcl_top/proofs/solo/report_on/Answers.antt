@@ -1,6 +1,6 @@
 -- The answers for the form are those for the program.
-use Rattle.std.proofs.Common.{◌≡◌, ◌∙◌, ap, refl}
-use Rattle.tcl_lang.specs.Program.{NamedProgram, VersionedProgram}
+use Rattle.std.proofs.Common.{◌∙◌, ap}
+use Rattle.tcl_lang.specs.Program.{VersionedProgram}
 use Rattle.tcl_goals.specs.Places.{goals_of}
 use Rattle.tcl_top.specs.Headline.{verdict_status}
 use Rattle.tcl_top.proofs.AllAnswers.{answers_of_program}
