@@ -2,12 +2,17 @@
 //! are counts: the answer, clauses, terms, bytes. A workload makes its text, and only `main` prints.
 #![tactic(auto)]
 
+mod blasting;
+mod butterflies;
 mod checking;
 mod circuit;
 mod formula;
+mod plain;
+mod products;
 mod reading;
 mod reducing;
 mod searching;
+mod walking;
 
 use formula::Formula;
 use reading::Kind;
@@ -27,6 +32,18 @@ enum Workload {
     Reduce(u32, u32),
     // Check a log of so many lines, each a chain of so many clauses.
     Check(u32, u32),
+    // Go through ten instructions over all values of two words of so many bits.
+    Walk(u32),
+    // The same loop, its ten instructions written out.
+    Plain(u32),
+    // Decide a claim behind the same instructions in all assignments of the two words.
+    Enumerate(u32),
+    // Make the circuit of the product of two words of so many bits so many times.
+    Gates(u32, u32),
+    // Make the clauses of a product of two words of so many bits, so many times.
+    Blast(u32, u32),
+    // Reduce the algebraic goals of so many butterflies.
+    Butterflies(u32),
 }
 
 fn workload_of(words: &[&str]) -> Option<Workload> {
@@ -46,6 +63,18 @@ fn workload_of(words: &[&str]) -> Option<Workload> {
             let (lines, length) = sizes_of(rest)?;
             Some(Workload::Check(lines, length))
         }
+        "walk" => Some(Workload::Walk(size_of(rest)?)),
+        "plain" => Some(Workload::Plain(size_of(rest)?)),
+        "enumerate" => Some(Workload::Enumerate(size_of(rest)?)),
+        "gates" => {
+            let (width, count) = sizes_of(rest)?;
+            Some(Workload::Gates(width, count))
+        }
+        "blast" => {
+            let (width, times) = sizes_of(rest)?;
+            Some(Workload::Blast(width, times))
+        }
+        "butterflies" => Some(Workload::Butterflies(size_of(rest)?)),
         _ => None,
     }
 }
@@ -60,6 +89,13 @@ fn pair_of<'a>(words: &[&'a str]) -> Option<(&'a str, &'a str)> {
 fn sizes_of(words: &[&str]) -> Option<(u32, u32)> {
     let (first, second) = pair_of(words)?;
     Some((first.parse().ok()?, second.parse().ok()?))
+}
+
+fn size_of(words: &[&str]) -> Option<u32> {
+    match *words {
+        [word] => word.parse().ok(),
+        _ => None,
+    }
 }
 
 // The workload that the command line names, if there is one.
@@ -77,6 +113,12 @@ fn text_of(alloc: Global, workload: Workload) -> Result<String, AllocError> {
         Workload::Parse(kind, size) => reading::parse_text(alloc, kind, size),
         Workload::Reduce(count, definitions) => reducing::reduce_text(alloc, count, definitions),
         Workload::Check(lines, length) => checking::check_text(alloc, lines, length),
+        Workload::Walk(width) => walking::walk_text(alloc, width),
+        Workload::Plain(width) => plain::plain_text(alloc, width),
+        Workload::Enumerate(width) => walking::enumerate_text(alloc, width),
+        Workload::Gates(width, count) => products::products_text(alloc, width, count),
+        Workload::Blast(width, times) => blasting::blast_text(alloc, width, times),
+        Workload::Butterflies(count) => butterflies::butterflies_text(alloc, count),
     }
 }
 

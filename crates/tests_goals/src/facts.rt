@@ -6,7 +6,7 @@ use std::test::Fail;
 use tcl_goals::{Lemmas, free_bits, free_variables};
 
 // A program by its number, a goal, the places of the hypotheses and of the uses, the free variables, and the count of free bits.
-const FACTS: &[(usize, u32, &[u32], &[u32], &[u32], usize)] = &[
+pub(crate) const FACTS: &[(usize, u32, &[u32], &[u32], &[u32], usize)] = &[
     (0, 0, &[1], &[], &[0], 8),
     (0, 1, &[1, 2], &[2], &[0], 8),
     (0, 2, &[3], &[], &[1], 8),

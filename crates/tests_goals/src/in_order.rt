@@ -1,10 +1,15 @@
-// The tests of a fact's claim, uses and cube. The reference, a second implementation of the language, gave the answers.
+// The five tests of a fact's order, and the keys of hypotheses. The reference, a second implementation of the language, gave
+// the answers.
 
-use crate::forms::{form_of_text, uses_of};
+use crate::forms::{form_of_text, hyps_of, uses_of};
 use std::alloc::{AllocError, Global};
 use std::process::Abort;
 use std::test::Fail;
-use tcl_goals::{BitLit, Claim, Cube, Lemma, are_uses, has_claim, is_cube};
+use tcl_goals::{
+    BitLit, Claim, Cube, Hyp, Hyps, Key, Lemma, Lemmas, are_ordered, are_uses, has_claim, has_hyps,
+    is_cube, order,
+};
+use tcl_lang::Ssa;
 
 // Its goals stand at the places 2, 3 and 5; its variables are x, y, and z of four bits.
 const TEXT: &str =
@@ -29,6 +34,26 @@ fn lemma_of(alloc: Global, level: u32, bits: &[(u32, u32)]) -> Result<Lemma, All
     })
 }
 
+// Lemma 3 before goal 1, and lemma 5 before goal 2.
+#[tactic(auto, unfolding(tcl_goals::specs::LemmaList::next_number))]
+fn two_lemmas(alloc: Global) -> Result<Lemmas, AllocError> {
+    let mut lemmas = Lemmas::new(alloc);
+    lemmas.push(3, lemma_of(alloc, 1, &[(0, 7)])?)?;
+    let second = lemma_of(alloc, 2, &[(1, 0)])?;
+    lemmas.push(5, second)?;
+    Ok(lemmas)
+}
+
+// The key of a hypothesis, if it is one.
+fn key_of(alloc: Global, form: &Ssa, lemmas: &Lemmas, hyp: Hyp) -> Result<Option<Key>, AllocError> {
+    let mut hyps = Hyps::new(alloc);
+    hyps.push(hyp)?;
+    if !has_hyps(form, lemmas, &hyps) {
+        return Ok(None);
+    }
+    Ok(Some(order(form, &hyp, lemmas)))
+}
+
 #[test]
 fn claims(rt: HostRuntime) -> Result<(), Fail> {
     let alloc = rt.alloc();
@@ -50,6 +75,103 @@ fn claims(rt: HostRuntime) -> Result<(), Fail> {
             has_claim(&form, &claim) == *has,
             "bit {bit} of {var} at level {level}"
         );
+    }
+    Ok(())
+}
+
+// Whether the lines at these places can be hypotheses.
+fn has_lines(alloc: Global, form: &Ssa, places: &[u32]) -> Result<bool, AllocError> {
+    let hyps = hyps_of(alloc, places)?;
+    Ok(has_hyps(form, &Lemmas::new(alloc), &hyps))
+}
+
+// The places of lines, and whether all of them can be hypotheses.
+const LINES: &[(&[u32], bool)] = &[
+    (&[1, 2], true),
+    (&[1, 2, 3], true),
+    (&[0], false),
+    (&[4], false),
+    (&[6], false),
+    (&[1, 9], false),
+];
+
+#[test]
+fn lines_as_hypotheses(rt: HostRuntime) -> Result<(), Fail> {
+    let alloc = rt.alloc();
+    let form = form_of_text(alloc, TEXT)?;
+    for (places, has) in LINES {
+        let found = has_lines(alloc, &form, places)?;
+        assert!(&rt; found == *has, "the lines {places:?}");
+    }
+    Ok(())
+}
+
+// The key of a hypothesis where there are the two lemmas.
+fn key_with_lemmas(alloc: Global, form: &Ssa, hyp: Hyp) -> Result<Option<Key>, AllocError> {
+    let lemmas = two_lemmas(alloc)?;
+    key_of(alloc, form, &lemmas, hyp)
+}
+
+// Whether a hypothesis has this key, or none.
+fn has_key(alloc: Global, form: &Ssa, hyp: Hyp, key: Option<Key>) -> Result<bool, AllocError> {
+    Ok(key_with_lemmas(alloc, form, hyp)? == key)
+}
+
+const LINE_KEY: Key = Key {
+    place: 3,
+    kind: 1,
+    number: 0,
+};
+
+const LEMMA_KEY: Key = Key {
+    place: 5,
+    kind: 0,
+    number: 5,
+};
+
+#[test]
+fn keys(rt: HostRuntime) -> Result<(), Fail> {
+    let alloc = rt.alloc();
+    let form = form_of_text(alloc, TEXT)?;
+    let of_line = has_key(alloc, &form, Hyp::Line(3), Some(LINE_KEY))?;
+    assert!(&rt; of_line, "the key of a line");
+    let of_lemma = has_key(alloc, &form, Hyp::Lemma(5), Some(LEMMA_KEY))?;
+    assert!(&rt; of_lemma, "the key of a lemma");
+    let of_none = has_key(alloc, &form, Hyp::Lemma(4), None)?;
+    assert!(&rt; of_none, "no lemma");
+    Ok(())
+}
+
+// Whether hypotheses are in order before a goal, where there are the two lemmas.
+fn has_order(alloc: Global, form: &Ssa, goal: u32, items: &[Hyp]) -> Result<bool, AllocError> {
+    let mut hyps = Hyps::new(alloc);
+    for hyp in items {
+        hyps.push(*hyp)?;
+    }
+    let lemmas = two_lemmas(alloc)?;
+    Ok(are_ordered(form, &lemmas, &Claim::Goal(goal), &hyps))
+}
+
+// A goal, hypotheses, and whether they are in order before it.
+const ORDERS: &[(u32, &[Hyp], bool)] = &[
+    (2, &[Hyp::Line(1), Hyp::Line(3)], true),
+    (2, &[Hyp::Line(3), Hyp::Line(1)], false),
+    (2, &[Hyp::Line(1), Hyp::Line(1)], false),
+    (1, &[Hyp::Line(3)], false),
+    (1, &[Hyp::Lemma(3)], true),
+    (1, &[Hyp::Line(2), Hyp::Lemma(3)], true),
+    (2, &[Hyp::Lemma(3), Hyp::Line(3), Hyp::Lemma(5)], true),
+    (2, &[Hyp::Line(3), Hyp::Lemma(3)], false),
+    (0, &[Hyp::Lemma(3)], false),
+];
+
+#[test]
+fn order_of_hypotheses(rt: HostRuntime) -> Result<(), Fail> {
+    let alloc = rt.alloc();
+    let form = form_of_text(alloc, TEXT)?;
+    for (goal, items, is_ordered) in ORDERS {
+        let found = has_order(alloc, &form, *goal, items)?;
+        assert!(&rt; found == *is_ordered, "hypotheses of goal {goal}");
     }
     Ok(())
 }

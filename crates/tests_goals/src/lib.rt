@@ -11,3 +11,7 @@ mod goals;
 mod in_order;
 #[cfg(test)]
 mod programs;
+#[cfg(test)]
+mod sharing;
+#[cfg(test)]
+mod slices;

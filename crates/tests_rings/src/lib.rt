@@ -1,4 +1,4 @@
-//! Tests of the public calls of rings, polynomials, cofactors and reduction.
+//! Tests of the public calls of rings, polynomials, cofactors, reduction and plain data.
 #![tactic(auto)]
 
 #[cfg(test)]
@@ -9,5 +9,7 @@ mod naming;
 mod polynomials;
 #[cfg(test)]
 mod reduction;
+#[cfg(test)]
+mod remainders;
 #[cfg(test)]
 mod rings;

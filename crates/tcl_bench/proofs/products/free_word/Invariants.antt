@@ -1,0 +1,6 @@
+use Rattle.std.proofs.Common.{◌≤◌, length}
+use Rattle.tcl_gates.specs.Meaning.{AreWithin}
+use Rattle.tcl_bench.proofs.products.free_word.Given as goal
+
+abbrev pub invariant-loop-k : goal.invariant-loop-k
+invariant-loop-k l = AreWithin (length l.gates) l.word × (length l.fn.gates ≤ length l.gates)

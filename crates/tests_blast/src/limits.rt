@@ -1,0 +1,112 @@
+// Counts of clauses, and facts of too many. The reference, a second implementation, made the counts of the table, and those
+// that the parts of the long programs add.
+
+use crate::facts::{clauses_of, whole_fact};
+use crate::forms::form_of_text;
+use std::alloc::{AllocError, Global};
+use std::process::Abort;
+use std::test::Fail;
+use tcl_goals::Lemmas;
+
+// A program, a goal, and the count of the clauses of its whole fact.
+const COUNTS: &[(&str, u32, usize)] = &[
+    (
+        "in u32 x\npre rng x <= 3@u32\ncut rng x <= 10@u32\nassert rng x <= 5@u32\nend",
+        0,
+        385,
+    ),
+    (
+        "in u32 x\npre rng x <= 3@u32\ncut rng x <= 10@u32\nassert rng x <= 5@u32\nend",
+        1,
+        578,
+    ),
+    (
+        "in u32 x\npre alg x*x = 4\nassert rng x = 2@u32\nend",
+        0,
+        226,
+    ),
+    ("in u1 a\nassert rng a * a = a\nend", 0, 12),
+    ("in u8 a\nassert rng a * a = a\nend", 0, 558),
+    (
+        "in u32 a\nin u32 b\nmull u32 h l a b\nassert rng true\nend",
+        0,
+        34_466,
+    ),
+    (
+        "in u64 a\nin u64 b\nmull u64 h l a b\nassert rng true\nend",
+        0,
+        138_562,
+    ),
+];
+
+// The count of the clauses of a goal's whole fact, or that of clauses that are too many.
+fn count_of(alloc: Global, program: &str, goal: u32) -> Result<Result<usize, u32>, Fail> {
+    let form = form_of_text(alloc, program)?;
+    let fact = whole_fact(alloc, &form, goal)?;
+    match clauses_of(alloc, &form, &fact, &Lemmas::new(alloc))? {
+        Ok(cnf) => Ok(Ok(cnf.len())),
+        Err(count) => Ok(Err(count)),
+    }
+}
+
+// A goal of a product of so many factors of 64 bits: 34,914 clauses for two of them, and 34,464 for each further one. Each of
+// the sums before it adds 1,217, and each other line one.
+fn long_program(alloc: Global, factors: u32, sums: u32, others: u32) -> Result<String, AllocError> {
+    let mut text = String::new(alloc);
+    write!(text, "in u64 a\n")?;
+    for _ in 0..sums {
+        write!(text, "pre rng a + a = a\n")?;
+    }
+    for _ in 0..others {
+        write!(text, "pre rng true\n")?;
+    }
+    write!(text, "assert rng a")?;
+    for _ in 1..factors {
+        write!(text, " * a")?;
+    }
+    write!(text, " = a\nend")?;
+    Ok(text)
+}
+
+#[test]
+fn counts_of_clauses(rt: HostRuntime) -> Result<(), Fail> {
+    let alloc = rt.alloc();
+    for (program, goal, count) in COUNTS {
+        match count_of(alloc, program, *goal)? {
+            Ok(found) => assert!(&rt; found == *count, "goal {goal} of {program}: {found}"),
+            Err(many) => assert!(&rt; false, "{many} clauses"),
+        }
+    }
+    Ok(())
+}
+
+#[test]
+fn as_many_clauses_as_there_may_be(rt: HostRuntime) -> Result<(), Fail> {
+    let alloc = rt.alloc();
+    let program = long_program(alloc, 122, 19, 587)?;
+    match count_of(alloc, &program, 0)? {
+        Ok(found) => assert!(&rt; found == 4_194_304, "{found} clauses"),
+        Err(many) => assert!(&rt; false, "{many} clauses"),
+    }
+    Ok(())
+}
+
+fn expect_too_many(rt: &impl Abort, alloc: Global, program: &str) -> Result<(), Fail> {
+    match count_of(alloc, program, 0)? {
+        Ok(found) => assert!(rt; false, "{found} clauses"),
+        Err(many) => assert!(rt; many == 4_194_305, "{many} clauses"),
+    }
+    Ok(())
+}
+
+#[test]
+fn one_clause_too_many(rt: HostRuntime) -> Result<(), Fail> {
+    let alloc = rt.alloc();
+    expect_too_many(&rt, alloc, &long_program(alloc, 122, 19, 588)?)
+}
+
+#[test]
+fn far_too_many_clauses(rt: HostRuntime) -> Result<(), Fail> {
+    let alloc = rt.alloc();
+    expect_too_many(&rt, alloc, &long_program(alloc, 4_000, 0, 0)?)
+}

@@ -1,0 +1,115 @@
+// Narrow facts: an assignment of the free bits, given as a cube, meets the clauses exactly where the walk through all
+// assignments finds that it denies the claim and meets the hypotheses.
+
+use crate::facts::{clauses_of, is_in_order, whole_fact};
+use crate::forms::{form_of_text, parts_of, program_of};
+use crate::whole_rows::ROWS;
+use std::alloc::{AllocError, Global};
+use std::process::Abort;
+use std::test::Fail;
+use tcl_cnf::Cnf;
+use tcl_enum::{Ended, enumerate};
+use tcl_goals::{Bit, BitLit, Cube, Fact, Lemmas, free_bits};
+use tcl_lang::Ssa;
+use tcl_port::{Poll, Port};
+use tcl_sat::{Found, search};
+
+// A port that never cancels.
+#[derive(Drop)]
+struct Patient {
+    polls: u64,
+}
+
+impl Port for Patient {
+    ghost polls = { λ p. p.polls };
+
+    ghost cancels = { λ _. 0 };
+
+    fn poll(&mut self) -> Poll {
+        self.polls = self.polls.saturating_add(1);
+        Poll::Go
+    }
+}
+
+// Bit k has the value of bit k of the number.
+fn cube_of(alloc: Global, bits: &[Bit], number: u32) -> Result<Cube, AllocError> {
+    let mut cube = Cube::new(alloc);
+    let mut left = number;
+    for bit in bits {
+        cube.push(BitLit {
+            var: bit.var,
+            bit: bit.bit,
+            value: left % 2 == 1,
+        })?;
+        left /= 2;
+    }
+    Ok(cube)
+}
+
+// Whether some values meet the clauses.
+fn can_be_met(alloc: Global, cnf: &Cnf) -> Result<bool, Fail> {
+    let mut port = Patient { polls: 0 };
+    match search(alloc, cnf, 1000, 1000, &mut port)? {
+        Found::Model(_) => Ok(true),
+        Found::Refutes(_) => Ok(false),
+        Found::Spent(_) | Found::Stopped => Err("an endless search")?,
+    }
+}
+
+// Whether an assignment denies the fact.
+fn can_be_denied(alloc: Global, form: &Ssa, fact: &Fact, lemmas: &Lemmas) -> Result<bool, Fail> {
+    if !is_in_order(form, fact, lemmas) {
+        return Err("a fact out of order")?;
+    }
+    if free_bits(alloc, form, lemmas, fact)?.len() > 20 {
+        return Err("a wide fact")?;
+    }
+    let ended = enumerate(alloc, form, fact, lemmas);
+    match &ended {
+        Ended::All => Ok(false),
+        Ended::Fails(_) => Ok(true),
+        Ended::Wide | Ended::Memory => Err("no walk")?,
+    }
+}
+
+// Whether the assignment meets the clauses where it denies the fact, and not where it does not.
+fn agrees(alloc: Global, form: &Ssa, lemmas: &Lemmas, goal: u32, cube: Cube) -> Result<bool, Fail> {
+    let mut fact = whole_fact(alloc, form, goal)?;
+    fact.cube = cube;
+    let is_denied = can_be_denied(alloc, form, &fact, lemmas)?;
+    match clauses_of(alloc, form, &fact, lemmas)? {
+        Ok(cnf) => Ok(can_be_met(alloc, &cnf)? == is_denied),
+        Err(_) => Err("too many clauses")?,
+    }
+}
+
+// Whether the first 64 assignments of a goal's free bits agree.
+fn all_agree(alloc: Global, program: &str, goal: u32) -> Result<bool, Fail> {
+    let form = form_of_text(alloc, program)?;
+    let lemmas = Lemmas::new(alloc);
+    let fact = whole_fact(alloc, &form, goal)?;
+    let bits = free_bits(alloc, &form, &lemmas, &fact)?;
+    let count = if bits.len() < 6 {
+        1u32 << bits.len()
+    } else {
+        64
+    };
+    for number in 0..count {
+        let cube = cube_of(alloc, bits.as_slice(), number)?;
+        if !agrees(alloc, &form, &lemmas, goal, cube)? {
+            return Ok(false);
+        }
+    }
+    Ok(true)
+}
+
+#[test]
+fn assignments_meet_the_clauses_that_they_deny(rt: HostRuntime) -> Result<(), Fail> {
+    let alloc = rt.alloc();
+    for row in ROWS.lines() {
+        let (goal, lines, _) = parts_of(row)?;
+        let agree = all_agree(alloc, &program_of(alloc, lines)?, goal)?;
+        assert!(&rt; agree, "goal {goal} of {lines}");
+    }
+    Ok(())
+}
