@@ -31,7 +31,7 @@ pub line-send : IsSend Line.the_row
 line-send =
     let p = pred-send in
     recorded_send _ _ _ (Line.the_type).to_one (enum_send (shape Line.the_type)
-        ((search sendable, (search sendable, tt)), ((p, tt), ((instr-send, tt), ((p, tt), ((p, tt), ((p, tt), ((p, tt), tt))))))))
+    ((search sendable, (search sendable, tt)), ((p, tt), ((instr-send, tt), ((p, tt), ((p, tt), ((p, tt), ((p, tt), tt))))))))
 
 pub program-send : IsSend Program.the_row
 program-send = search (sendable, std.crosses, line-send) depth 40
@@ -61,7 +61,7 @@ pub line-sync : IsSync Line.the_row
 line-sync =
     let p = pred-sync in
     recorded_sync _ _ _ (Line.the_type).to_one (enum_sync (shape Line.the_type)
-        ((search sendable, (search sendable, tt)), ((p, tt), ((instr-sync, tt), ((p, tt), ((p, tt), ((p, tt), ((p, tt), tt))))))))
+    ((search sendable, (search sendable, tt)), ((p, tt), ((instr-sync, tt), ((p, tt), ((p, tt), ((p, tt), ((p, tt), tt))))))))
 
 pub program-sync : IsSync Program.the_row
 program-sync = search (sendable, std.crosses, line-sync) depth 40

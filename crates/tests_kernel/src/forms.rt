@@ -36,5 +36,10 @@ fn word_of_reason(reason: Reason) -> &'static str {
         Reason::Bounds => "bounds",
         Reason::Enum => "enum",
         Reason::Break => "break",
+        Reason::LogSize => "log size",
+        Reason::Log(_) => "log",
+        Reason::LogEnd => "log end",
+        Reason::Cofactors => "cofactors",
+        Reason::Wide => "wide",
     }
 }
