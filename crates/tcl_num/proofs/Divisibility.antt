@@ -1,5 +1,5 @@
 -- The tests of divisibility and congruence say exactly when the facts hold.
-use Rattle.std.proofs.Common.{◌≡◌, ℕ, suc, ◌+◌, ◌*◌, ◌/◌, ◌%◌, ◌<◌, ◌==◌, ◌↔◌, sym, ◌∙◌, ap, arith, eq-eqb, ℤ, pos, negsuc, ◌+ℤ◌, ◌-ℤ◌, ◌*ℤ◌, neg_ℤ, unsigned_abs, true}
+use Rattle.std.proofs.Common.{◌≡◌, ℕ, suc, ◌/◌, ◌%◌, ◌<◌, sym, ◌∙◌, ap, arith, eq-eqb, ℤ, pos, negsuc, ◌+ℤ◌, ◌-ℤ◌, ◌*ℤ◌, neg_ℤ, unsigned_abs, true}
 use Rattle.std.specs.Int.{int_rem_euclid, int_div_euclid}
 use Rattle.std.proofs.lemmas.Int.{ints, unsigned_abs-mul}
 use Rattle.std.proofs.lemmas.Bool.{eqb-true}
@@ -8,7 +8,7 @@ use Rattle.std.proofs.Math.Nat.{mul-mod_right}
 use Rattle.tcl_num.specs.Congruence.{Divides, Congruent, is_multiple, is_congruent}
 use Rattle.tcl_num.proofs.IntegerRing.{int_mul_assoc, int_mul_add, int_mul_neg, int_mul_zero}
 use Rattle.tcl_num.proofs.EuclideanDivision.{euclid_split}
-use Rattle.tcl_num.proofs.Congruences.{congruent_trans, congruent_sym, congruent_remainder}
+use Rattle.tcl_num.proofs.Congruences.{congruent_sym, congruent_remainder}
 
 -- a number whose magnitude leaves no remainder is a multiple
 multiple_of_magnitude : (d n : ℤ) → unsigned_abs n % unsigned_abs d ≡ 0 → Divides d n

@@ -8,4 +8,5 @@ pub mod WrappedValues
 pub mod SaturatingCounts
 pub mod ResidueProducts
 pub mod MachineWrapping
+pub mod LowestBits
 mod FarSums

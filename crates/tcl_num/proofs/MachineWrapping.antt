@@ -1,12 +1,12 @@
 -- What the machine's signed arithmetic leaves of a result is the wrapped value of a signed word of that width.
-use Rattle.std.proofs.Common.{◌≡◌, ℕ, suc, ◌+◌, ◌-◌, ◌*◌, ◌^◌, ◌<◌, refl, sym, ◌∙◌, ap, subst, arith, ℤ, pos, negsuc, ◌+ℤ◌, ◌-ℤ◌, ◌*ℤ◌, unsigned_abs, Bool, true, false}
+use Rattle.std.proofs.Common.{◌≡◌, ℕ, suc, ◌-◌, ◌^◌, ◌<◌, refl, sym, ap, subst, arith, ℤ, pos, negsuc, unsigned_abs, Bool, true, false}
 use Rattle.std.specs.Int.{Width, w8, w16, w32, w64, w128, int_rem_euclid, int_wrap}
 use Rattle.std.proofs.lemmas.Int.{ints, SFits-int_wrap}
 use Rattle.std.proofs.lemmas.Nat.{pow_pos}
 use lib.Dec.{ltb}
 use mir.Val.{sel, bits, hbits}
 use Rattle.tcl_num.specs.Congruence.{Congruent}
-use Rattle.tcl_num.specs.Range.{InRange, wrapped}
+use Rattle.tcl_num.specs.Range.{wrapped}
 use Rattle.tcl_num.proofs.EuclideanDivision.{euclid_range}
 use Rattle.tcl_num.proofs.Congruences.{congruent_trans, congruent_remainder}
 use Rattle.tcl_num.proofs.WrappedValues.{wrapped_only}

@@ -1,5 +1,5 @@
 -- Counts that stop at an end: what is cut off on the way does not change the result.
-use Rattle.std.proofs.Common.{◌≡◌, ℕ, zero, suc, ◌+◌, ◌*◌, ◌≤◌, ◌<◌, ◌⊎◌, inl, inr, min, arith, ap, ◌∙◌, sym, refl}
+use Rattle.std.proofs.Common.{◌≡◌, ℕ, zero, suc, ◌+◌, ◌*◌, ◌≤◌, ◌<◌, ◌⊎◌, inl, inr, min, arith, ap, ◌∙◌}
 
 -- a sum of counts that stop at the end
 pub sum_saturates : (a b end : ℕ) → min (min a end + min b end) end ≡ min (a + b) end

@@ -1,6 +1,7 @@
 // The values of a word of some width, and the one that is congruent to an integer.
 
 ghost use Rattle.std.specs.Prelude.{◌≡◌, ℕ, ℤ, ◌<◌, ◌≤◌, ◌^◌, ◌↔◌, pos, IsTrue};
+ghost use Rattle.std.specs.Int.{int_rem_euclid};
 ghost use Rattle.tcl_num.specs.Congruence.{Congruent};
 ghost use Rattle.tcl_num.specs.Range as r;
 
@@ -56,19 +57,31 @@ pub fn wrap_to(signed: bool, width: u32, n: i128) -> i128
     residue_value(signed, width, n)
 }
 
-// The same, by the remainder from 0 up. To add half of the range first would overflow near the greatest `i128`.
+// The same, from the lowest bits of `n`. To add half of the range first would overflow near the greatest `i128`.
 #[tactic(auto, unfolding(crate::specs::Range::wrapped))]
 fn residue_value(signed: bool, width: u32, n: i128) -> i128
     requires positive { 0 < width }
     requires narrow { width ≤ 64 }
     ensures { result ≡ r.wrapped signed width n }
 {
-    let whole = power_of_two(width);
-    let left = n.rem_euclid(whole);
+    let left = lowest_bits(width, n);
     if signed {
         let half = power_of_two(width - 1);
-        if left < half { left } else { left - whole }
+        if left < half {
+            left
+        } else {
+            left - power_of_two(width)
+        }
     } else {
         left
     }
+}
+
+// The number whose bits are the lowest `width` bits of `n` in two's complement: the remainder of `n` from 0 up, without
+// a division.
+fn lowest_bits(width: u32, n: i128) -> i128
+    requires narrow { width ≤ 64 }
+    ensures { result ≡ int_rem_euclid n (pos (2 ^ width)) }
+{
+    n & (power_of_two(width) - 1)
 }

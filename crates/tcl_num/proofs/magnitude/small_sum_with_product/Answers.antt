@@ -1,6 +1,5 @@
 -- A product that is too great for u128 leaves a sum that is too great.
-use Rattle.std.proofs.Common.{rules, ◌+◌, ◌*◌, ◌≤◌, ◌^◌, unsigned_abs, arith}
-use Rattle.std.proofs.lemmas.Int.{ints}
+use Rattle.std.proofs.Common.{rules, ◌+◌, ◌*◌, ◌≤◌, ◌^◌, unsigned_abs}
 use Rattle.tcl_num.proofs.FarSums.{too_far}
 use Rattle.tcl_num.proofs.magnitude.small_sum_with_product.Goals as goal
 

@@ -1,5 +1,5 @@
 -- The digit is 1 where it is not 0.
-use Rattle.std.proofs.Common.{◌≡◌, ◌+◌, ◌*◌, ◌%◌, sym, ◌∙◌, ap, arith}
+use Rattle.std.proofs.Common.{◌≡◌, ◌+◌, ◌*◌, ◌%◌, ◌∙◌, ap, arith}
 use Rattle.tcl_num.proofs.ResidueProducts.{added_residue}
 use Rattle.tcl_num.proofs.residue.doubled_and_added.Goals as goal
 

@@ -1,5 +1,5 @@
 -- One digit more is read, which the doubled product takes up.
-use Rattle.std.proofs.Common.{◌≡◌, ℕ, suc, ◌<◌, ◌≤◌, ◌+◌, ◌*◌, ◌%◌, ◌/◌, ◌^◌, ◌-◌, sym, ◌∙◌, ap, subst, arith}
+use Rattle.std.proofs.Common.{◌≡◌, ℕ, suc, ◌<◌, ◌*◌, ◌%◌, ◌/◌, ◌^◌, ◌-◌, sym, ◌∙◌, ap, subst, arith}
 use Rattle.std.proofs.lemmas.Nat.{mod_below}
 use Rattle.tcl_num.proofs.ResidueProducts.{doubled_residue, next_digit}
 use Rattle.tcl_num.proofs.residue.mul_by_doubling.Goals as goal

@@ -1,5 +1,5 @@
 -- The residue of a product is that of the product of residues.
-use Rattle.std.proofs.Common.{◌≡◌, ◌*◌, ◌%◌, sym, ◌∙◌, ap}
+use Rattle.std.proofs.Common.{◌*◌, ◌%◌, sym, ◌∙◌, ap}
 use Rattle.std.proofs.lemmas.Nat.{mul-mod}
 use Rattle.tcl_num.proofs.residue.mul_mod.Goals as goal
 

@@ -1,0 +1,33 @@
+-- The lowest bits of an integer's pattern in two's complement are its remainder from 0 up.
+use Rattle.std.proofs.Common.{◌≡◌, ℕ, ◌+◌, ◌-◌, ◌*◌, ◌%◌, ◌^◌, ◌<◌, ◌≤◌, ◌∙◌, ap, arith, bit_and, ℤ, pos, negsuc, ◌-ℤ◌, to_z, of_z, SFits}
+use Rattle.std.specs.Int.{w128, int_rem_euclid}
+use Rattle.std.proofs.lemmas.Int.{ints, to_z_pos}
+use Rattle.std.proofs.lemmas.Nat.{and_mask, pow_pos, pow_below, pow-add, mod_below}
+use Rattle.tcl_num.specs.Congruence.{Congruent}
+use Rattle.tcl_num.proofs.Congruences.{remainder_congruent}
+
+-- 2 ^ 128 is a multiple of each lower power
+whole_is : (k : ℕ) → k ≤ 64 → 2 ^ 128 ≡ 2 ^ k * 2 ^ (128 - k)
+whole_is k h =
+    let e : 128 ≡ k + (128 - k) = omega arith in
+    ap (λ n. 2 ^ n) e ∙ pow-add 2 k (128 - k)
+
+-- a pattern differs from the integer by nothing or by 2 ^ 128
+pattern_congruent : (k : ℕ) (n : ℤ) → k ≤ 64 → SFits w128 n → Congruent (pos (2 ^ k)) (pos (of_z w128 n)) n
+pattern_congruent k (pos a) h fits = (pos 0, omega (arith, ints))
+pattern_congruent k (negsuc a) h fits = (pos (2 ^ (128 - k)), omega (arith, ints, fits, whole_is k h))
+
+pub lowest_bits : (k : ℕ) (n : ℤ) → k ≤ 64 → SFits w128 n → to_z w128 (bit_and (of_z w128 n) (2 ^ k - 1)) ≡ int_rem_euclid n (pos (2 ^ k))
+lowest_bits k n h fits =
+    let small : of_z w128 n % 2 ^ k < 2 ^ k = mod_below (of_z w128 n) (2 ^ k) (pow_pos k) in
+    let high : 2 ^ k < 2 ^ 127 = pow_below k 127 (omega arith) in
+    ap (to_z w128) (and_mask (of_z w128 n) k) ∙ to_z_pos w128 (of_z w128 n % 2 ^ k) (omega arith)
+    ∙ remainder_congruent (2 ^ k) (pos (of_z w128 n)) n (pow_pos k) (pattern_congruent k n h fits)
+
+-- the mask of a width, from the power of two
+pub mask_is : (k : ℕ) (whole : ℤ) → k ≤ 64 → whole ≡ pos (2 ^ k) → of_z w128 (to_z w128 (of_z w128 whole) -ℤ pos 1) ≡ 2 ^ k - 1
+mask_is k whole h e =
+    let some : 0 < 2 ^ k = pow_pos k in
+    let read : to_z w128 (of_z w128 whole) ≡ pos (2 ^ k) = ap (λ z. to_z w128 (of_z w128 z)) e ∙ to_z_pos w128 (2 ^ k) (pow_below k 127 (omega arith)) in
+    let less : to_z w128 (of_z w128 whole) -ℤ pos 1 ≡ pos (2 ^ k - 1) = omega (arith, ints, read) in
+    ap (of_z w128) less
