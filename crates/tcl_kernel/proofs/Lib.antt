@@ -5,3 +5,4 @@ mod SamePolynomials
 pub mod Cofactors
 mod CofactorValues
 pub mod Soundness
+pub mod Strays

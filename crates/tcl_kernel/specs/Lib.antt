@@ -10,6 +10,11 @@ pub mod SamePolynomials
 pub mod CofactorCertificate
 pub mod Certificates
 pub mod Counterexample
+pub mod Trials
+pub mod PlainOutcome
+pub mod Strays
+pub mod Causes
 pub mod Answers
 pub mod Laws
 pub mod Refuting
+pub mod ValueStrays

@@ -15,6 +15,7 @@ mod laws;
 mod logged;
 mod proof;
 mod reason;
+mod stray;
 
 pub use answer::Answer;
 pub use certificate::Cert;
@@ -24,3 +25,4 @@ pub use facts::{Facts, NumberedFact};
 pub use laws::{certificates_are_sound, checked_breaks_refute, reasons_are_exact};
 pub use proof::Proof;
 pub use reason::Reason;
+pub use stray::{Stray, first_stray};
