@@ -6,3 +6,5 @@ pub mod Cofactors
 mod CofactorValues
 pub mod Soundness
 pub mod Strays
+pub mod ModelStrays
+pub mod CutModels

@@ -1,5 +1,5 @@
 -- What a first stray says of the hypotheses before it, and that none says it of all.
-use Rattle.std.proofs.Common.{◌≡◌, ◌<◌, ◌+◌, ◌⊎◌, inl, inr, ℕ, zero, suc, ℤ, Bool, true, false, refl, sym, ◌∙◌, ap, subst, arith, add-one, List, length, if◌then◌else◌, Option, Some, None}
+use Rattle.std.proofs.Common.{◌≡◌, ◌<◌, ◌+◌, ◌⊎◌, inl, inr, ℕ, zero, suc, ℤ, Bool, true, false, refl, ◌∙◌, ap, subst, arith, add-one, List, length, if◌then◌else◌, Option, Some, None}
 use Rattle.std.proofs.lemmas.Bool.{cases_lt}
 use Rattle.tcl_lang.specs.declared.outcome.Truth.{Truth}
 use Rattle.tcl_lang.specs.declared.outcome.Truth.TheVariants.{Yes, No, Wide}

@@ -102,6 +102,6 @@ IsTrueCause p budget q cause.Model = IsCutModel p budget q
 IsTrueCause p budget q (cause.Steps n) = IsSpent p budget q n
 IsTrueCause p budget q (cause.Width at) = IsReducedTo p budget q (outcome.Wide at)
 IsTrueCause p budget q (cause.Size w n) = IsTooLarge p budget q w n
-IsTrueCause p budget q (cause.Rest rest note) = ⊥
+IsTrueCause p budget q (cause.Rest _ _) = ⊥
 IsTrueCause p budget q (cause.Stray place truth input) = HasStray p budget q place truth input
 IsTrueCause p budget q cause.Later = LeavesRest p budget q

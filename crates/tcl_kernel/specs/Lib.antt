@@ -14,6 +14,7 @@ pub mod Trials
 pub mod PlainOutcome
 pub mod Strays
 pub mod Causes
+pub mod CauseLaws
 pub mod Answers
 pub mod Laws
 pub mod Refuting

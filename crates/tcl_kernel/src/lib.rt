@@ -22,7 +22,10 @@ pub use certificate::Cert;
 pub use checker::check;
 pub use counterexample::check_break;
 pub use facts::{Facts, NumberedFact};
-pub use laws::{certificates_are_sound, checked_breaks_refute, reasons_are_exact};
+pub use laws::{
+    certificates_are_sound, checked_breaks_refute, cut_models_are_true, fresh_logs_are_spent,
+    models_stray, reasons_are_exact, strays_break,
+};
 pub use proof::Proof;
 pub use reason::Reason;
 pub use stray::{Stray, first_stray};

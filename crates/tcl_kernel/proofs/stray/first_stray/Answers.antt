@@ -1,5 +1,5 @@
 -- What the values of the run say the input says.
-use Rattle.std.proofs.Common.{◌≡◌, ◌∙◌, ℕ, ap, List}
+use Rattle.std.proofs.Common.{◌≡◌, ◌∙◌, ap, List}
 use Rattle.tcl_lang.specs.declared.pred.Line.{Line}
 use Rattle.tcl_lang.specs.Values.{trace_of}
 use Rattle.tcl_goals.specs.Places.{goal_place}
