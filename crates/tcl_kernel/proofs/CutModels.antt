@@ -1,5 +1,5 @@
 -- What denies a cut piece: a model of its clauses, or an assignment at which the walk ends.
-use Rattle.std.proofs.Common.{◌≡◌, ℕ, pos, Bool, true, false, refl, sym, ◌∙◌, ap, List, [], ◌∷◌, length, cond, replicate, Some}
+use Rattle.std.proofs.Common.{◌≡◌, ℕ, pos, Bool, true, false, refl, sym, ◌∙◌, ap, List, [], ◌∷◌, length, cond, if◌then◌else◌, replicate, Option, Some, None}
 use Rattle.std.specs.Prelude.{find}
 use Rattle.tcl_lang.specs.declared.variable.Variable.{Variable}
 use Rattle.tcl_lang.specs.Program.{VersionedProgram}
@@ -19,12 +19,15 @@ use Rattle.tcl_goals.specs.Order.{InOrder}
 use Rattle.tcl_goals.specs.Assignments.{Assigns}
 use Rattle.tcl_goals.proofs.PieceOrder.{piece_in_order}
 use Rattle.tcl_enum.specs.Patterns.{given, free_values, assignment, assignment_count}
-use Rattle.tcl_enum.specs.Enumeration.{is_denied, is_denied_at, first_denial}
+use Rattle.tcl_enum.specs.declared.ended.FreeValue.{FreeValue}
+use Rattle.tcl_enum.specs.declared.ended.Ended.TheVariants as ended
+use Rattle.tcl_enum.specs.NarrowFact.{is_narrow_fact}
+use Rattle.tcl_enum.specs.Enumeration.{is_denied, is_denied_at, first_denial, ended_by, ended_of}
 use Rattle.tcl_enum.proofs.Walks.{given_typed}
 use Rattle.tcl_enum.proofs.Recomputing.{walk_assigns}
 use Rattle.tcl_blast.specs.Models.{is_algebraic_claim, assignment_of, ModelsAreAssignments}
 use Rattle.tcl_kernel.specs.Causes.{is_walked_by}
-use Rattle.tcl_kernel.specs.CauseLaws.{ModelsAreCuts, DenialsAreCuts, FreshLogsAreSpent}
+use Rattle.tcl_kernel.specs.CauseLaws.{ModelsAreCuts, DenialsAreCuts}
 
 clash : {X : Type 0} (b : Bool) → b ≡ true → b ≡ false → X
 clash b s t = absurd (cc)
@@ -76,17 +79,26 @@ numbered_assigns p fact n w order =
     walk_assigns p [] fact (given (free_values p [] fact n) (replicate (length p.variables) (pos 0))) w order
     (given_typed p.variables (free_variables p [] fact) n (replicate (length p.variables) (pos 0)) w.words (zeros_typed p.variables))
 
-pub denials_cut : DenialsAreCuts
-denials_cut p budget q n w piece cut unbounded walked first = record {
-  route_is = cut;
-  unbounded = unbounded;
-  walked = λ e. record {
-    values = assignment p [] (piece_fact p q) n;
-    assigns = numbered_assigns p (piece_fact p q) n w (piece_in_order p [] q w piece);
-    denied = first_denies p (piece_fact p q) n first;
-  };
-  searched = λ unwalked. clash (is_walked_by p budget (piece_fact p q)) walked unwalked;
-}
+-- a walk that ends at an assignment ends at the first that denies the fact
+fails_first : (p : VersionedProgram) (fact : Fact) (free : List FreeValue) → ended_of p [] fact ≡ ended.Fails free → (n : ℕ) × (first_denial p [] fact ≡ Some n)
+unfolding ended_of
+fails_first p fact free e = at (is_narrow_fact p fact) (first_denial p [] fact) refl e
+  where
+    at : (b : Bool) (o : Option ℕ) → first_denial p [] fact ≡ o → (if b then ended_by p [] fact o else ended.Wide) ≡ ended.Fails free → (n : ℕ) × (first_denial p [] fact ≡ Some n)
+    at true None s e = absurd (cc)
+    at true (Some n) s e = (n, s)
+    at false o s e = absurd (cc)
 
-pub logs_spent : FreshLogsAreSpent
-logs_spent p budget q lines left range derives = record { left = left; range = range; number = refl; lines = lines; derives = derives }
+pub denials_cut : DenialsAreCuts
+denials_cut p budget q free w piece cut unbounded walked fails =
+    let first = fails_first p (piece_fact p q) free fails in
+    record {
+      route_is = cut;
+      unbounded = unbounded;
+      walked = λ e. record {
+        values = assignment p [] (piece_fact p q) first.0;
+        assigns = numbered_assigns p (piece_fact p q) first.0 w (piece_in_order p [] q w piece);
+        denied = first_denies p (piece_fact p q) first.0 first.1;
+      };
+      searched = λ unwalked. clash (is_walked_by p budget (piece_fact p q)) walked unwalked;
+    }

@@ -8,3 +8,4 @@ pub mod Soundness
 pub mod Strays
 pub mod ModelStrays
 pub mod CutModels
+pub mod SearchEnds

@@ -47,8 +47,10 @@ pub fn cut_models_are_true()
     models_are_assignments();
 }
 
-/// A log of as many fresh clauses as the budget, none of them empty, makes the spent budget a true cause of a piece that is
-/// left open.
-pub fn fresh_logs_are_spent()
-    ensures { cause_laws.FreshLogsAreSpent }
+/// What a search or a reduction ends with is a true cause of a piece that is left open: a log of as many fresh clauses as the
+/// budget, none of them empty; too many clauses; all that plain reduction makes of a claim but that nothing is left.
+pub fn search_ends_are_true()
+    ensures logs { cause_laws.FreshLogsAreSpent }
+    ensures clauses { cause_laws.ManyClausesAreLarge }
+    ensures reductions { cause_laws.OutcomesAreCauses }
 {}

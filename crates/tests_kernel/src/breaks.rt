@@ -1,11 +1,10 @@
 // Inputs against goals. The reference, a second implementation of the checks, gave the answers.
 
-use crate::forms::{form_of_text, word_of};
-use std::alloc::{AllocError, Global};
+use crate::forms::{form_of_text, input_of, word_of};
+use std::alloc::Global;
 use std::process::Abort;
 use std::test::Fail;
 use tcl_kernel::check_break;
-use tcl_lang::Input;
 
 const TEXT: &str =
     "in u8 x\nin s8 y\npre rng x < 100@u8\nassume rng y <= 50@s8\nassert rng x < 60@u8\nassume alg 2*x = 84 + y\nnondet u4 k\nassert rng k < 15@u4\npost rng x > 41@u8\nend";
@@ -45,14 +44,6 @@ const WIDE_BREAKS: &[(u32, &[i128], &str)] = &[
     (1, &[0], "break"),
     (2, &[7], "break"),
 ];
-
-fn input_of(alloc: Global, values: &[i128]) -> Result<Input, AllocError> {
-    let mut input = Input::new(alloc);
-    for value in values {
-        input.push(*value)?;
-    }
-    Ok(input)
-}
 
 fn answers_on_inputs(
     rt: &impl Abort,

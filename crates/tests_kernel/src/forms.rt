@@ -1,9 +1,9 @@
-// The form of a text, and the word of an answer.
+// The form of a text, an input of values, and the word of an answer.
 
-use std::alloc::Global;
+use std::alloc::{AllocError, Global};
 use std::test::Fail;
 use tcl_kernel::{Answer, Reason};
-use tcl_lang::Ssa;
+use tcl_lang::{Input, Ssa};
 use tcl_parse::parse;
 use tcl_ssa::ssa;
 use tcl_types::check;
@@ -15,6 +15,15 @@ pub(crate) fn form_of_text(alloc: Global, text: &str) -> Result<Ssa, Fail> {
         Ok(typed) => Ok(ssa(alloc, &typed)?),
         Err(_) => Err("an ill-typed program")?,
     }
+}
+
+// The input of these values.
+pub(crate) fn input_of(alloc: Global, values: &[i128]) -> Result<Input, AllocError> {
+    let mut input = Input::new(alloc);
+    for value in values {
+        input.push(*value)?;
+    }
+    Ok(input)
 }
 
 // The word of an answer: `proof`, or that of the reason.

@@ -7,3 +7,5 @@ mod breaks;
 mod facts;
 #[cfg(test)]
 mod forms;
+#[cfg(test)]
+mod strays;
