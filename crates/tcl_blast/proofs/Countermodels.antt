@@ -46,7 +46,7 @@ use Rattle.tcl_blast.specs.Lifted.{fixed_bits_of}
 use Rattle.tcl_blast.specs.Begin.{begun}
 use Rattle.tcl_blast.specs.declared.blasted.Blasted.{Blasted}
 use Rattle.tcl_blast.specs.Blasted.{blank}
-use Rattle.tcl_blast.specs.Clauses.{with_fixed_bits, range_wire, exactness_wire, stated_line, predicate_in, with_lemma, with_hyp, denied_line, denied_claim, used_of, assumed_of, blasted_of, clauses_of}
+use Rattle.tcl_blast.specs.Clauses.{by_fixed_bits, range_wire, exactness_wire, stated_line, predicate_in, with_lemma, with_hyp, denied_line, denied_claim, used_of, assumed_of, blasted_of, clauses_of}
 use Rattle.tcl_blast.proofs.LineOrder.{condition_made, pred_made}
 use Rattle.tcl_blast.proofs.Members.{among_left, among_right, among_first}
 use Rattle.tcl_blast.proofs.States.{IsState, stated_state, denied_state, operands_known, range_is, condition_is}
@@ -82,7 +82,7 @@ condition_literal p k (Post q) store free known s w at states read x = absurd (c
 line_state : (p : VersionedProgram) (k : ℕ) (l : Line) (o : Option Pred) (store : List Word) (free : List Bool) (known : ℕ → Bool) (s : Blasted) → IsWellFormed p → slice_get p.lines k ≡ Some l → predicate_of l ≡ o
     → ((v : ℕ) → (word_at store v).ty ≡ atom_ty (types_of p.variables) (Var v)) → ((v : ℕ) → length p.variables ≤ v → word_at store v ≡ empty_word)
     → ((v : ℕ) → is_among (used_names l) v ≡ true → known v ≡ true) → line_truth store l ≡ true → IsState p.variables store free known s
-    → IsState p.variables store free known (stated_line p (with_fixed_bits p.variables) s (Some l) o)
+    → IsState p.variables store free known (stated_line p (by_fixed_bits p.variables) s (Some l) o)
 line_state p k l (Some (Rng pred)) store free known s w at states types past read holds x =
     stated_state s (range_wire p s pred) (pred_made s.words (types_of p.variables) pred s.gates x.within) (range_literal p k l pred store free known s w at states read x ∙ holds) x
 line_state p k l (Some (Alg pred)) store free known s w at states types past read holds x =
@@ -95,7 +95,7 @@ line_state p k l None store free known s w at states types past read holds x =
 place_state : (p : VersionedProgram) (k : ℕ) (o : Option Line) (store : List Word) (free : List Bool) (known : ℕ → Bool) (s : Blasted) → IsWellFormed p → slice_get p.lines k ≡ o
     → ((v : ℕ) → (word_at store v).ty ≡ atom_ty (types_of p.variables) (Var v)) → ((v : ℕ) → length p.variables ≤ v → word_at store v ≡ empty_word)
     → ((v : ℕ) → is_among (read_in o) v ≡ true → known v ≡ true) → truth_in store o ≡ true → IsState p.variables store free known s
-    → IsState p.variables store free known (stated_line p (with_fixed_bits p.variables) s o (predicate_in o))
+    → IsState p.variables store free known (stated_line p (by_fixed_bits p.variables) s o (predicate_in o))
 place_state p k None store free known s w at types past read holds x =
     stated_state s (exactness_wire p s None) (condition_made s.gates s.words p.variables None x.within) (true_wire s.gates free) x
 place_state p k (Some l) store free known s w at types past read holds x = line_state p k l (predicate_of l) store free known s w at refl types past read holds x
@@ -103,7 +103,7 @@ place_state p k (Some l) store free known s w at types past read holds x = line_
 -- a denied line
 denied_line_state : (p : VersionedProgram) (k : ℕ) (l : Line) (o : Option Pred) (store : List Word) (free : List Bool) (known : ℕ → Bool) (s : Blasted) → IsWellFormed p → slice_get p.lines k ≡ Some l → predicate_of l ≡ o
     → ((v : ℕ) → is_among (used_names l) v ≡ true → known v ≡ true) → line_truth store l ≡ false → IsState p.variables store free known s
-    → IsState p.variables store free known (denied_line p s (Some l) o)
+    → IsState p.variables store free known (denied_line p (by_fixed_bits p.variables) s (Some l) o)
 denied_line_state p k l (Some (Rng pred)) store free known s w at states read holds x =
     denied_state s (range_wire p s pred) (pred_made s.words (types_of p.variables) pred s.gates x.within) (range_literal p k l pred store free known s w at states read x ∙ holds) x
 denied_line_state p k l (Some (Alg pred)) store free known s w at states read holds x = x
@@ -112,7 +112,7 @@ denied_line_state p k l None store free known s w at states read holds x =
 
 denied_place_state : (p : VersionedProgram) (k : ℕ) (o : Option Line) (store : List Word) (free : List Bool) (known : ℕ → Bool) (s : Blasted) → IsWellFormed p → slice_get p.lines k ≡ o
     → ((v : ℕ) → is_among (read_in o) v ≡ true → known v ≡ true) → truth_in store o ≡ false → IsState p.variables store free known s
-    → IsState p.variables store free known (denied_line p s o (predicate_in o))
+    → IsState p.variables store free known (denied_line p (by_fixed_bits p.variables) s o (predicate_in o))
 denied_place_state p k None store free known s w at read holds x = absurd (cc)
 denied_place_state p k (Some l) store free known s w at read holds x = denied_line_state p k l (predicate_of l) store free known s w at refl read holds x
 
@@ -140,7 +140,7 @@ fact_readable p lemmas fact bits h n b e = elim (cases_lt b.var (length p.variab
 
 -- the hypotheses
 hyp_state : (p : VersionedProgram) (lemmas : List Numbered) (fact : Fact) (values : List ℤ) (free : List Bool) (h : Hyp) (n : ℕ) (s : Blasted) → IsWellFormed p → Assigns p fact values → slice_get fact.hyps n ≡ Some h → hyp_of p lemmas values h ≡ true
-    → IsState p.variables (words_of p.variables values) free (known_by p lemmas fact fact.uses) s → IsState p.variables (words_of p.variables values) free (known_by p lemmas fact fact.uses) (with_hyp p (with_fixed_bits p.variables) lemmas s h)
+    → IsState p.variables (words_of p.variables values) free (known_by p lemmas fact fact.uses) s → IsState p.variables (words_of p.variables values) free (known_by p lemmas fact fact.uses) (with_hyp p (by_fixed_bits p.variables) lemmas s h)
 unfolding truth_of
 hyp_state p lemmas fact values free (hyp.Line k) n s w a at holds x =
     place_state p k (slice_get p.lines k) (words_of p.variables values) free (known_by p lemmas fact fact.uses) s w refl (λ v. word_type p.variables values v a.typed) (past_empty p.variables values)
@@ -156,18 +156,18 @@ hyp_state p lemmas fact values free (hyp.Lemma i) n s w a at holds x = by (lemma
 
 hyps_state : (p : VersionedProgram) (lemmas : List Numbered) (fact : Fact) (values : List ℤ) (free : List Bool) (hyps : List Hyp) (s : Blasted) → IsWellFormed p → Assigns p fact values
     → ((n : ℕ) (h : Hyp) → slice_get hyps n ≡ Some h → (m : ℕ) × (slice_get fact.hyps m ≡ Some h)) → list_all (hyp_of p lemmas values) hyps ≡ true
-    → IsState p.variables (words_of p.variables values) free (known_by p lemmas fact fact.uses) s → IsState p.variables (words_of p.variables values) free (known_by p lemmas fact fact.uses) (fold (with_hyp p (with_fixed_bits p.variables) lemmas) s hyps)
+    → IsState p.variables (words_of p.variables values) free (known_by p lemmas fact fact.uses) s → IsState p.variables (words_of p.variables values) free (known_by p lemmas fact fact.uses) (fold (with_hyp p (by_fixed_bits p.variables) lemmas) s hyps)
 hyps_state p lemmas fact values free [] s w a there holds x = x
 hyps_state p lemmas fact values free (h ∷ hyps) s w a there holds x =
     let parts = and_parts (hyp_of p lemmas values h) (list_all (hyp_of p lemmas values) hyps) holds in
     let place = there 0 h refl in
-    hyps_state p lemmas fact values free hyps (with_hyp p (with_fixed_bits p.variables) lemmas s h) w a (λ n g e. there (suc n) g e) parts.1
+    hyps_state p lemmas fact values free hyps (with_hyp p (by_fixed_bits p.variables) lemmas s h) w a (λ n g e. there (suc n) g e) parts.1
     (hyp_state p lemmas fact values free h place.0 s w a place.1 parts.0 x)
 
 -- the denied claim
 claim_state : (p : VersionedProgram) (lemmas : List Numbered) (fact : Fact) (values : List ℤ) (free : List Bool) (c : Claim) (s : Blasted) → IsWellFormed p → Assigns p fact values
     → ((v : ℕ) → is_among (claim_variables p.lines c) v ≡ true → is_among (fact_variables p.lines lemmas fact) v ≡ true) → claim_of p values c ≡ false
-    → IsState p.variables (words_of p.variables values) free (known_by p lemmas fact fact.uses) s → IsState p.variables (words_of p.variables values) free (known_by p lemmas fact fact.uses) (denied_claim p s c)
+    → IsState p.variables (words_of p.variables values) free (known_by p lemmas fact fact.uses) s → IsState p.variables (words_of p.variables values) free (known_by p lemmas fact fact.uses) (denied_claim p (by_fixed_bits p.variables) s c)
 unfolding truth_of
 claim_state p lemmas fact values free (claim.Goal i) s w a named denies x =
     denied_place_state p (goal_place p.lines i) (slice_get p.lines (goal_place p.lines i)) (words_of p.variables values) free (known_by p lemmas fact fact.uses) s w refl
@@ -185,8 +185,8 @@ fact_state p lemmas fact values w order a hyps cube denies =
     let used = uses_state p lemmas fact values free (blank (begun p lemmas fact)) w a rise first in
     let assumed = hyps_state p lemmas fact values free fact.hyps (used_of p lemmas fact) w a (λ n h e. (n, e)) hyps used in
     let cubed =
-    bits_state (fold (with_hyp p (with_fixed_bits p.variables) lemmas) (used_of p lemmas fact) fact.hyps) fact.cube (past_empty p.variables values) (fact_readable p lemmas fact fact.cube (cube_named p lemmas fact)) cube assumed in
-    claim_state p lemmas fact values free fact.claim (assumed_of p (with_fixed_bits p.variables) lemmas fact) w a (claim_named p lemmas fact) denies cubed
+    bits_state (fold (with_hyp p (by_fixed_bits p.variables) lemmas) (used_of p lemmas fact) fact.hyps) fact.cube (past_empty p.variables values) (fact_readable p lemmas fact fact.cube (cube_named p lemmas fact)) cube assumed in
+    claim_state p lemmas fact values free fact.claim (assumed_of p (by_fixed_bits p.variables) lemmas fact) w a (claim_named p lemmas fact) denies cubed
 
 pub denials_meet : DenialsMeetClauses
 unfolding clauses_of

@@ -18,6 +18,7 @@ mod Modelled
 mod Loops
 mod Leaves
 mod Readiness
+mod Behind
 mod Counts
 pub mod TakenValues
 pub mod ModelBits

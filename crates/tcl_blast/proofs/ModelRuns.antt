@@ -45,7 +45,7 @@ use Rattle.tcl_blast.specs.Begin.{begun}
 use Rattle.tcl_blast.specs.declared.blasted.Blasted.{Blasted}
 use Rattle.tcl_blast.specs.Blasted.{blank, with_bits, without_bits, with_bit, without_bit}
 use Rattle.tcl_blast.specs.Lifted.{fixed_bits_of}
-use Rattle.tcl_blast.specs.Clauses.{with_use, with_hyp, with_lemma, with_fixed_bits, stated_line, denied_line, denied_claim, predicate_in, used_of, assumed_of, blasted_of}
+use Rattle.tcl_blast.specs.Clauses.{with_use, with_hyp, with_lemma, by_fixed_bits, stated_line, denied_line, denied_claim, predicate_in, used_of, assumed_of, blasted_of}
 use Rattle.tcl_blast.specs.Models.{literals_value, literals_values, assignment_of, hyp_in_clauses, line_in_clauses, Models}
 use Rattle.tcl_blast.specs.Inputs.{free_values, input_of}
 use Rattle.tcl_blast.specs.ModelRuns.{AreLemmas, UsesAll, IsModelRun, ModelsRun, UnnamedAreZero, LaterAreZero}
@@ -67,7 +67,7 @@ without_words : (s : Blasted) (bits : List BitLit) → (without_bits s bits).wor
 without_words s [] = refl
 without_words s (b ∷ bits) = without_words (without_bit s b) bits
 
-line_words : (p : VersionedProgram) (s : Blasted) (l : Option Line) (o : Option Pred) → (stated_line p (with_fixed_bits p.variables) s l o).words ≡ s.words
+line_words : (p : VersionedProgram) (s : Blasted) (l : Option Line) (o : Option Pred) → (stated_line p (by_fixed_bits p.variables) s l o).words ≡ s.words
 line_words p s l (Some (Rng pred)) = refl
 line_words p s l (Some (Alg pred)) = bits_words s (fixed_bits_of p.variables pred)
 line_words p s l None = refl
@@ -76,27 +76,27 @@ lemma_words : (s : Blasted) (o : Option Lemma) → (with_lemma s o).words ≡ s.
 lemma_words s None = refl
 lemma_words s (Some m) = refl
 
-hyp_words : (p : VersionedProgram) (lemmas : List Numbered) (s : Blasted) (h : Hyp) → (with_hyp p (with_fixed_bits p.variables) lemmas s h).words ≡ s.words
+hyp_words : (p : VersionedProgram) (lemmas : List Numbered) (s : Blasted) (h : Hyp) → (with_hyp p (by_fixed_bits p.variables) lemmas s h).words ≡ s.words
 hyp_words p lemmas s (hyp.Line k) = line_words p s (slice_get p.lines k) (predicate_in (slice_get p.lines k))
 hyp_words p lemmas s (hyp.Lemma n) = lemma_words s (lemma_of lemmas n)
 
-hyps_words : (p : VersionedProgram) (lemmas : List Numbered) (hs : List Hyp) (s : Blasted) → (fold (with_hyp p (with_fixed_bits p.variables) lemmas) s hs).words ≡ s.words
+hyps_words : (p : VersionedProgram) (lemmas : List Numbered) (hs : List Hyp) (s : Blasted) → (fold (with_hyp p (by_fixed_bits p.variables) lemmas) s hs).words ≡ s.words
 hyps_words p lemmas [] s = refl
-hyps_words p lemmas (h ∷ hs) s = hyps_words p lemmas hs (with_hyp p (with_fixed_bits p.variables) lemmas s h) ∙ hyp_words p lemmas s h
+hyps_words p lemmas (h ∷ hs) s = hyps_words p lemmas hs (with_hyp p (by_fixed_bits p.variables) lemmas s h) ∙ hyp_words p lemmas s h
 
-denied_words : (p : VersionedProgram) (s : Blasted) (l : Option Line) (o : Option Pred) → (denied_line p s l o).words ≡ s.words
+denied_words : (p : VersionedProgram) (s : Blasted) (l : Option Line) (o : Option Pred) → (denied_line p (by_fixed_bits p.variables) s l o).words ≡ s.words
 denied_words p s l (Some (Rng pred)) = refl
 denied_words p s l (Some (Alg pred)) = refl
 denied_words p s l None = refl
 
-claim_words : (p : VersionedProgram) (s : Blasted) (c : Claim) → (denied_claim p s c).words ≡ s.words
+claim_words : (p : VersionedProgram) (s : Blasted) (c : Claim) → (denied_claim p (by_fixed_bits p.variables) s c).words ≡ s.words
 claim_words p s (claim.Goal i) = denied_words p s (slice_get p.lines (goal_place p.lines i)) (predicate_in (slice_get p.lines (goal_place p.lines i)))
 claim_words p s (claim.Lemma m) = without_words s m.clause
 
 final_words : (p : VersionedProgram) (lemmas : List Numbered) (fact : Fact) → (blasted_of p lemmas fact).words ≡ (used_of p lemmas fact).words
 final_words p lemmas fact =
-    claim_words p (assumed_of p (with_fixed_bits p.variables) lemmas fact) fact.claim
-    ∙ bits_words (fold (with_hyp p (with_fixed_bits p.variables) lemmas) (used_of p lemmas fact) fact.hyps) fact.cube
+    claim_words p (assumed_of p (by_fixed_bits p.variables) lemmas fact) fact.claim
+    ∙ bits_words (fold (with_hyp p (by_fixed_bits p.variables) lemmas) (used_of p lemmas fact) fact.hyps) fact.cube
     ∙ hyps_words p lemmas fact.hyps (used_of p lemmas fact)
 
 -- a variable for which a line takes a value keeps its literals

@@ -42,7 +42,7 @@ use Rattle.tcl_blast.specs.Lifted.{fixed_bits_of}
 use Rattle.tcl_blast.specs.Begin.{begun}
 use Rattle.tcl_blast.specs.declared.blasted.Blasted.{Blasted}
 use Rattle.tcl_blast.specs.Blasted.{blank, grown, stated, denied, with_bit, with_bits, without_bit, without_bits, bit_lit}
-use Rattle.tcl_blast.specs.Clauses.{with_fixed_bits, range_wire, exactness_wire, stated_line, predicate_in, with_lemma, with_hyp, denied_line, denied_claim, used_of, assumed_of, blasted_of, clauses_of}
+use Rattle.tcl_blast.specs.Clauses.{by_fixed_bits, range_wire, exactness_wire, stated_line, predicate_in, with_lemma, with_hyp, denied_line, denied_claim, used_of, assumed_of, blasted_of, clauses_of}
 use Rattle.tcl_blast.specs.Models.{literals_values, assignment_of, line_in_clauses, hyp_in_clauses, is_algebraic_claim, Models, ModelsAreAssignments}
 use Rattle.tcl_blast.proofs.GateOrder.{LitMade}
 use Rattle.tcl_blast.proofs.LineOrder.{condition_made, pred_made}
@@ -94,7 +94,7 @@ stated_post x t w m p = clause_post x (grown t w.gates t.words) (w.lit ∷ []) (
 denied_post : (x : Setting) (t : Blasted) (w : Wire) → LitMade t.gates w → IsPost x t → IsPost x (denied t w)
 denied_post x t w m p = clause_post x (grown t w.gates t.words) (neg w.lit ∷ []) (grown_post x t w.gates m.grows p)
 
-line_post : (x : Setting) (t : Blasted) (l : Option Line) (o : Option Pred) → IsPost x t → IsPost x (stated_line x.program (with_fixed_bits x.program.variables) t l o)
+line_post : (x : Setting) (t : Blasted) (l : Option Line) (o : Option Pred) → IsPost x t → IsPost x (stated_line x.program (by_fixed_bits x.program.variables) t l o)
 line_post x t l (Some (Rng pred)) p = stated_post x t (range_wire x.program t pred) (pred_made t.words (types_of x.program.variables) pred t.gates p.within) p
 line_post x t l (Some (Alg pred)) p = bits_post x t (fixed_bits_of x.program.variables pred) p
 line_post x t l None p = stated_post x t (exactness_wire x.program t l) (condition_made t.gates t.words x.program.variables l p.within) p
@@ -103,26 +103,26 @@ lemma_post : (x : Setting) (t : Blasted) (o : Option Lemma) → IsPost x t → I
 lemma_post x t None p = p
 lemma_post x t (Some m) p = clause_post x t (map (bit_lit t.words) m.clause) p
 
-hyp_post : (x : Setting) (t : Blasted) (h : Hyp) → IsPost x t → IsPost x (with_hyp x.program (with_fixed_bits x.program.variables) x.lemmas t h)
+hyp_post : (x : Setting) (t : Blasted) (h : Hyp) → IsPost x t → IsPost x (with_hyp x.program (by_fixed_bits x.program.variables) x.lemmas t h)
 hyp_post x t (hyp.Line k) p = line_post x t (slice_get x.program.lines k) (predicate_in (slice_get x.program.lines k)) p
 hyp_post x t (hyp.Lemma n) p = lemma_post x t (lemma_of x.lemmas n) p
 
-pub hyps_post : (x : Setting) (hyps : List Hyp) (t : Blasted) → IsPost x t → IsPost x (fold (with_hyp x.program (with_fixed_bits x.program.variables) x.lemmas) t hyps)
+pub hyps_post : (x : Setting) (hyps : List Hyp) (t : Blasted) → IsPost x t → IsPost x (fold (with_hyp x.program (by_fixed_bits x.program.variables) x.lemmas) t hyps)
 hyps_post x [] t p = p
-hyps_post x (h ∷ hyps) t p = hyps_post x hyps (with_hyp x.program (with_fixed_bits x.program.variables) x.lemmas t h) (hyp_post x t h p)
+hyps_post x (h ∷ hyps) t p = hyps_post x hyps (with_hyp x.program (by_fixed_bits x.program.variables) x.lemmas t h) (hyp_post x t h p)
 
-denied_line_post : (x : Setting) (t : Blasted) (l : Option Line) (o : Option Pred) → IsPost x t → IsPost x (denied_line x.program t l o)
+denied_line_post : (x : Setting) (t : Blasted) (l : Option Line) (o : Option Pred) → IsPost x t → IsPost x (denied_line x.program (by_fixed_bits x.program.variables) t l o)
 denied_line_post x t l (Some (Rng pred)) p = denied_post x t (range_wire x.program t pred) (pred_made t.words (types_of x.program.variables) pred t.gates p.within) p
 denied_line_post x t l (Some (Alg pred)) p = p
 denied_line_post x t l None p = denied_post x t (exactness_wire x.program t l) (condition_made t.gates t.words x.program.variables l p.within) p
 
-claim_post : (x : Setting) (t : Blasted) (c : Claim) → IsPost x t → IsPost x (denied_claim x.program t c)
+claim_post : (x : Setting) (t : Blasted) (c : Claim) → IsPost x t → IsPost x (denied_claim x.program (by_fixed_bits x.program.variables) t c)
 claim_post x t (claim.Goal i) p = denied_line_post x t (slice_get x.program.lines (goal_place x.program.lines i)) (predicate_in (slice_get x.program.lines (goal_place x.program.lines i))) p
 claim_post x t (claim.Lemma m) p = denied_bits_post x t m.clause p
 
 -- a line that is a hypothesis
 line_back : (x : Setting) (t : Blasted) (k : ℕ) (l : Line) (o : Option Pred) → IsSet x → SizedKnown x → IsPost x t → slice_get x.program.lines k ≡ Some l → predicate_of l ≡ o → ReadsKnown x l
-    → IsReached x (stated_line x.program (with_fixed_bits x.program.variables) t (Some l) o) → IsReached x t × (line_in_clauses x.program (store_in x) (Some l) o ≡ true)
+    → IsReached x (stated_line x.program (by_fixed_bits x.program.variables) t (Some l) o) → IsReached x t × (line_in_clauses x.program (store_in x) (Some l) o ≡ true)
 line_back x t k l (Some (Rng pred)) e sized p at states read r =
     let b = stated_back x t (range_wire x.program t pred) e (pred_made t.words (types_of x.program.variables) pred t.gates p.within) r in
     (b.0, sym (range_at x t k l pred e sized p b.0 at states read) ∙ b.1)
@@ -136,7 +136,7 @@ line_back x t k l None e sized p at states read r =
 
 place_back : (x : Setting) (t : Blasted) (k : ℕ) (o : Option Line) → IsSet x → SizedKnown x → IsPost x t → slice_get x.program.lines k ≡ o
     → ((u : ℕ) → is_among (read_in o) u ≡ true → (known_by x.program x.lemmas x.fact x.fact.uses u ≡ true) × (u < length x.program.variables))
-    → IsReached x (stated_line x.program (with_fixed_bits x.program.variables) t o (predicate_in o)) → IsReached x t × (line_in_clauses x.program (store_in x) o (predicate_in o) ≡ true)
+    → IsReached x (stated_line x.program (by_fixed_bits x.program.variables) t o (predicate_in o)) → IsReached x t × (line_in_clauses x.program (store_in x) o (predicate_in o) ≡ true)
 place_back x t k None e sized p at read r =
     let b = stated_back x t (exactness_wire x.program t None) e (condition_made t.gates t.words x.program.variables None p.within) r in
     (b.0, refl)
@@ -148,7 +148,7 @@ lemma_at x t n m (Some c) e sized p at is r =
     lemma_back x t c.clause e sized p
     (fact_readable x.program x.lemmas x.fact c.clause (λ v f. hyp_named x.program x.lemmas x.fact m v (hyp.Lemma n) at (ap (λ o. is_among (lemma_variables o) v) is ∙ f))) r
 
-hyp_back : (x : Setting) (t : Blasted) (h : Hyp) (m : ℕ) → IsSet x → SizedKnown x → IsPost x t → slice_get x.fact.hyps m ≡ Some h → IsReached x (with_hyp x.program (with_fixed_bits x.program.variables) x.lemmas t h)
+hyp_back : (x : Setting) (t : Blasted) (h : Hyp) (m : ℕ) → IsSet x → SizedKnown x → IsPost x t → slice_get x.fact.hyps m ≡ Some h → IsReached x (with_hyp x.program (by_fixed_bits x.program.variables) x.lemmas t h)
     → IsReached x t × (hyp_in_clauses x.program x.lemmas (literals_values x.v x.program.variables x.final) h ≡ true)
 hyp_back x t (hyp.Line k) m e sized p at r =
     place_back x t k (slice_get x.program.lines k) e sized p refl
@@ -156,17 +156,17 @@ hyp_back x t (hyp.Line k) m e sized p at r =
 hyp_back x t (hyp.Lemma n) m e sized p at r = lemma_at x t n m (lemma_of x.lemmas n) e sized p at refl r
 
 hyps_back : (x : Setting) (hyps : List Hyp) (t : Blasted) → IsSet x → SizedKnown x → IsPost x t → ((n : ℕ) (h : Hyp) → slice_get hyps n ≡ Some h → (m : ℕ) × (slice_get x.fact.hyps m ≡ Some h))
-    → IsReached x (fold (with_hyp x.program (with_fixed_bits x.program.variables) x.lemmas) t hyps) → IsReached x t × (list_all (hyp_in_clauses x.program x.lemmas (literals_values x.v x.program.variables x.final)) hyps ≡ true)
+    → IsReached x (fold (with_hyp x.program (by_fixed_bits x.program.variables) x.lemmas) t hyps) → IsReached x t × (list_all (hyp_in_clauses x.program x.lemmas (literals_values x.v x.program.variables x.final)) hyps ≡ true)
 hyps_back x [] t e sized p found r = (r, refl)
 hyps_back x (h ∷ hyps) t e sized p found r =
-    let rest = hyps_back x hyps (with_hyp x.program (with_fixed_bits x.program.variables) x.lemmas t h) e sized (hyp_post x t h p) (λ n g f. found (suc n) g f) r in
+    let rest = hyps_back x hyps (with_hyp x.program (by_fixed_bits x.program.variables) x.lemmas t h) e sized (hyp_post x t h p) (λ n g f. found (suc n) g f) r in
     let place = found 0 h refl in
     let here = hyp_back x t h place.0 e sized p place.1 rest.0 in
     (here.0, and_from _ _ here.1 rest.1)
 
 -- the denied claim
 denied_at : (x : Setting) (t : Blasted) (k : ℕ) (l : Line) (o : Option Pred) → IsSet x → SizedKnown x → IsPost x t → slice_get x.program.lines k ≡ Some l → predicate_of l ≡ o → ReadsKnown x l → is_algebraic_in o ≡ false
-    → IsReached x (denied_line x.program t (Some l) o) → IsReached x t × (line_truth (store_in x) l ≡ false)
+    → IsReached x (denied_line x.program (by_fixed_bits x.program.variables) t (Some l) o) → IsReached x t × (line_truth (store_in x) l ≡ false)
 denied_at x t k l (Some (Rng pred)) e sized p at states read plain r =
     let b = denied_back x t (range_wire x.program t pred) e (pred_made t.words (types_of x.program.variables) pred t.gates p.within) r in
     (b.0, sym (range_at x t k l pred e sized p b.0 at states read) ∙ b.1)
@@ -180,13 +180,13 @@ no_truth e = absurd (cc)
 
 goal_back : (x : Setting) (t : Blasted) (k : ℕ) (o : Option Line) → IsSet x → SizedKnown x → IsPost x t → slice_get x.program.lines k ≡ o
     → ((u : ℕ) → is_among (read_in o) u ≡ true → (known_by x.program x.lemmas x.fact x.fact.uses u ≡ true) × (u < length x.program.variables)) → passes is_algebraic o ≡ false → passes (λ l. true) o ≡ true
-    → IsReached x (denied_line x.program t o (predicate_in o)) → IsReached x t × (truth_in (store_in x) o ≡ false)
+    → IsReached x (denied_line x.program (by_fixed_bits x.program.variables) t o (predicate_in o)) → IsReached x t × (truth_in (store_in x) o ≡ false)
 goal_back x t k None e sized p at read plain there r = no_truth (sym there)
 goal_back x t k (Some l) e sized p at read plain there r = denied_at x t k l (predicate_of l) e sized p at refl read plain r
 
 claim_back : (x : Setting) (t : Blasted) (c : Claim) → IsSet x → SizedKnown x → IsPost x t → has_claim x.program c ≡ true → is_algebraic_claim x.program c ≡ false
     → ((v : ℕ) → is_among (claim_variables x.program.lines c) v ≡ true → is_among (fact_variables x.program.lines x.lemmas x.fact) v ≡ true)
-    → IsReached x (denied_claim x.program t c) → IsReached x t × (claim_of x.program (literals_values x.v x.program.variables x.final) c ≡ false)
+    → IsReached x (denied_claim x.program (by_fixed_bits x.program.variables) t c) → IsReached x t × (claim_of x.program (literals_values x.v x.program.variables x.final) c ≡ false)
 unfolding truth_of
 claim_back x t (claim.Goal i) e sized p has plain named r =
     let k = goal_place x.program.lines i in
@@ -213,10 +213,10 @@ models p lemmas fact v w order plain met =
     let whole = blasted_of p lemmas fact in
     let x : Setting = record { program = p; lemmas = lemmas; fact = fact; v = v; all = whole.gates; final = used.words } in
     let begin : IsPost x used = record { words = refl; within = st.state.within; ordered = st.state.ordered; full = st.full } in
-    let assumed = fold (with_hyp p (with_fixed_bits p.variables) lemmas) used fact.hyps in
+    let assumed = fold (with_hyp p (by_fixed_bits p.variables) lemmas) used fact.hyps in
     let after : IsPost x assumed = hyps_post x fact.hyps used begin in
-    let cubed : IsPost x (assumed_of p (with_fixed_bits p.variables) lemmas fact) = bits_post x assumed fact.cube after in
-    let end : IsPost x whole = claim_post x (assumed_of p (with_fixed_bits p.variables) lemmas fact) fact.claim cubed in
+    let cubed : IsPost x (assumed_of p (by_fixed_bits p.variables) lemmas fact) = bits_post x assumed fact.cube after in
+    let end : IsPost x whole = claim_post x (assumed_of p (by_fixed_bits p.variables) lemmas fact) fact.claim cubed in
     let e : IsSet x = record {
       formed = w;
       rise = rise;
@@ -227,7 +227,7 @@ models p lemmas fact v w order plain met =
     } in
     let sized : SizedKnown x = λ u kn. (st.state.shown u kn).word.count in
     let reached : IsReached x whole = record { begins = begins_same whole.gates; met = met } in
-    let by_claim = claim_back x (assumed_of p (with_fixed_bits p.variables) lemmas fact) fact.claim e sized cubed order.claim plain (claim_named p lemmas fact) reached in
+    let by_claim = claim_back x (assumed_of p (by_fixed_bits p.variables) lemmas fact) fact.claim e sized cubed order.claim plain (claim_named p lemmas fact) reached in
     let by_cube = bits_back x assumed fact.cube e sized after (fact_readable p lemmas fact fact.cube (cube_named p lemmas fact)) by_claim.0 in
     let by_hyps = hyps_back x fact.hyps used e sized begin (λ n h f. (n, f)) by_cube.0 in
     let values = literals_values v p.variables used.words in

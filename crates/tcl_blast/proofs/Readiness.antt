@@ -1,5 +1,5 @@
 -- Each part of a fact in order can be made into gates behind those before it.
-use Rattle.std.proofs.Common.{◌≡◌, ℕ, suc, true, false, List, [], ◌∷◌, ◌++◌, take, drop, fold, Option, Some, None, refl, sym, ◌∙◌, ap, subst}
+use Rattle.std.proofs.Common.{◌≡◌, ℕ, suc, true, false, List, [], ◌∷◌, ◌++◌, length, take, drop, fold, Option, Some, None, refl, sym, ◌∙◌, ap, subst}
 use Rattle.std.specs.List.{slice_get, list_all}
 use Rattle.std.proofs.lemmas.Bool.{and_parts}
 use Rattle.std.proofs.lemmas.List.{append-nil, append_assoc, take-append-drop}
@@ -27,19 +27,19 @@ use Rattle.tcl_goals.specs.Slices.{read_in}
 use Rattle.tcl_goals.specs.Free.{claim_variables}
 use Rattle.tcl_goals.specs.Order.{InOrder, is_step_before}
 use Rattle.tcl_goals.specs.Keys.{claim_place}
+use Rattle.tcl_words.specs.Ranges.{AllWithin}
 use Rattle.tcl_words.specs.Steps.{atoms_of}
 use Rattle.tcl_words.specs.Stores.{HaveWidths}
 use Rattle.tcl_blast.specs.declared.blasted.Blasted.{Blasted}
 use Rattle.tcl_blast.specs.Begin.{begun}
 use Rattle.tcl_blast.specs.Blasted.{blank}
-use Rattle.tcl_blast.specs.Clauses.{with_use, with_hyp, with_fixed_bits, used_of, assumed_of, hyp_atoms, claim_atoms}
+use Rattle.tcl_blast.specs.Clauses.{Handler, with_use, with_hyp, used_of, assumed_of, hyp_atoms, claim_atoms}
+use Rattle.tcl_blast.specs.Handlers.{OnlyAppends, then_behind, bits_behind}
 use Rattle.tcl_blast.specs.Ready.{CanUse, CanState}
 use Rattle.tcl_blast.proofs.Members.{named_atom}
 use Rattle.tcl_blast.proofs.Facts.{known_by, known_after, hyp_named, claim_named, read_less}
 use Rattle.tcl_blast.proofs.Stages.{Stage, first_stage, next_stage, reads_known, stages_go}
-use Rattle.tcl_blast.proofs.ModelUses.{Setting}
-use Rattle.tcl_blast.proofs.ModelFacts.{IsPost}
-use Rattle.tcl_blast.proofs.Modelled.{bits_post, hyps_post}
+use Rattle.tcl_blast.proofs.Behind.{fold_behind, hyp_behind}
 
 -- the variables among the operands of a line are read by it
 stated_named : (o : Option Pred) (i : Option Instr) (j v : ℕ) → slice_get (stated_atoms o i) j ≡ Some (Var v) → is_among (stated_names o i) v ≡ true
@@ -100,34 +100,23 @@ claim_widths p lemmas fact (claim.Goal i) is w order =
 claim_widths p lemmas fact (claim.Lemma m) is w order = record { each = λ k v f. absurd (cc) }
 
 -- the state behind the used instructions
-used_setting : VersionedProgram → List Numbered → Fact → Setting
-used_setting p lemmas fact = record { program = p; lemmas = lemmas; fact = fact; v = λ _. false; all = []; final = (used_of p lemmas fact).words }
+used_within : (p : VersionedProgram) (lemmas : List Numbered) (fact : Fact) → IsWellFormed p → InOrder p lemmas fact → AllWithin (length (used_of p lemmas fact).gates) (used_of p lemmas fact).words
+used_within p lemmas fact w order = (used_stage p lemmas fact w order).state.within
 
-used_post : (p : VersionedProgram) (lemmas : List Numbered) (fact : Fact) → IsWellFormed p → InOrder p lemmas fact → IsPost (used_setting p lemmas fact) (used_of p lemmas fact)
-unfolding used_setting
-used_post p lemmas fact w order =
-    let st = used_stage p lemmas fact w order in
-    record { words = refl; within = st.state.within; ordered = st.state.ordered; full = st.full }
-
-hyps_after : (p : VersionedProgram) (lemmas : List Numbered) (fact : Fact) (hyps : List Hyp) → IsWellFormed p → InOrder p lemmas fact → IsPost (used_setting p lemmas fact) (fold (with_hyp p (with_fixed_bits p.variables) lemmas) (used_of p lemmas fact) hyps)
-unfolding used_setting
-hyps_after p lemmas fact hyps w order = hyps_post (used_setting p lemmas fact) hyps (used_of p lemmas fact) (used_post p lemmas fact w order)
-
-pub hyp_ready : (p : VersionedProgram) (lemmas : List Numbered) (fact : Fact) (n : ℕ) (h : Hyp) → IsWellFormed p → InOrder p lemmas fact → slice_get fact.hyps n ≡ Some h
-    → CanState p (fold (with_hyp p (with_fixed_bits p.variables) lemmas) (used_of p lemmas fact) (take n fact.hyps)) (hyp_atoms p.lines h)
-unfolding used_setting
-hyp_ready p lemmas fact n h w order e =
-    let post = hyps_after p lemmas fact (take n fact.hyps) w order in
+pub hyp_ready : (p : VersionedProgram) (f : Handler) (lemmas : List Numbered) (fact : Fact) (n : ℕ) (h : Hyp) → OnlyAppends f → IsWellFormed p → InOrder p lemmas fact → slice_get fact.hyps n ≡ Some h
+    → CanState p (fold (with_hyp p f lemmas) (used_of p lemmas fact) (take n fact.hyps)) (hyp_atoms p.lines h)
+hyp_ready p f lemmas fact n h a w order e =
+    let behind = fold_behind (with_hyp p f lemmas) (used_of p lemmas fact) (take n fact.hyps) (hyp_behind p f lemmas a) in
     record {
-      within = post.within;
-      widths = subst (λ (ws : List (List ℕ)). HaveWidths ws p.variables (hyp_atoms p.lines h)) (sym post.words) (hyp_widths p lemmas fact n h w order e);
+      within = behind.within (used_within p lemmas fact w order);
+      widths = subst (λ (ws : List (List ℕ)). HaveWidths ws p.variables (hyp_atoms p.lines h)) (sym behind.words) (hyp_widths p lemmas fact n h w order e);
     }
 
-pub claim_ready : (p : VersionedProgram) (lemmas : List Numbered) (fact : Fact) → IsWellFormed p → InOrder p lemmas fact → CanState p (assumed_of p (with_fixed_bits p.variables) lemmas fact) (claim_atoms p.lines fact.claim)
-unfolding used_setting
-claim_ready p lemmas fact w order =
-    let post = bits_post (used_setting p lemmas fact) (fold (with_hyp p (with_fixed_bits p.variables) lemmas) (used_of p lemmas fact) fact.hyps) fact.cube (hyps_after p lemmas fact fact.hyps w order) in
+pub claim_ready : (p : VersionedProgram) (f : Handler) (lemmas : List Numbered) (fact : Fact) → OnlyAppends f → IsWellFormed p → InOrder p lemmas fact → CanState p (assumed_of p f lemmas fact) (claim_atoms p.lines fact.claim)
+claim_ready p f lemmas fact a w order =
+    let hyps = fold (with_hyp p f lemmas) (used_of p lemmas fact) fact.hyps in
+    let behind = then_behind (fold_behind (with_hyp p f lemmas) (used_of p lemmas fact) fact.hyps (hyp_behind p f lemmas a)) (bits_behind hyps fact.cube) in
     record {
-      within = post.within;
-      widths = subst (λ (ws : List (List ℕ)). HaveWidths ws p.variables (claim_atoms p.lines fact.claim)) (sym post.words) (claim_widths p lemmas fact fact.claim refl w order);
+      within = behind.within (used_within p lemmas fact w order);
+      widths = subst (λ (ws : List (List ℕ)). HaveWidths ws p.variables (claim_atoms p.lines fact.claim)) (sym behind.words) (claim_widths p lemmas fact fact.claim refl w order);
     }

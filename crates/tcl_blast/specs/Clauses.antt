@@ -30,13 +30,18 @@ use Rattle.tcl_blast.specs.Begin.{begun}
 use Rattle.tcl_blast.specs.declared.blasted.Blasted.{Blasted}
 use Rattle.tcl_blast.specs.Blasted.{blank, grown, with_clause, stated, denied, bit_lit, with_bits, without_bits}
 
--- what is made of an algebraic line that is a hypothesis
-abbrev pub Handler : Type 0
-Handler = Blasted → AlgPred → Blasted
+-- what is made of an algebraic line: of one that is a hypothesis, and of one that is the denied claim
+pub record Handler : Type 0 where
+  pub stating : Blasted → AlgPred → Blasted
+  pub denying : Blasted → AlgPred → Blasted
 
--- the bits that it fixes
-abbrev pub with_fixed_bits : List Variable → Handler
+-- the bits that a hypothesis fixes
+abbrev pub with_fixed_bits : List Variable → Blasted → AlgPred → Blasted
 with_fixed_bits variables s p = with_bits s (fixed_bits_of variables p)
+
+-- a hypothesis gives the bits that it fixes, a denied claim nothing
+abbrev pub by_fixed_bits : List Variable → Handler
+by_fixed_bits variables = record { stating = with_fixed_bits variables; denying = λ s pred. s }
 
 -- a used instruction
 abbrev pub with_use : VersionedProgram → Blasted → ℕ → Blasted
@@ -53,7 +58,7 @@ exactness_wire p s line = step_condition s.gates s.words p.variables line
 -- a line that is a hypothesis: by its predicate, or its exactness condition where it states none
 abbrev pub stated_line : VersionedProgram → Handler → Blasted → Option Line → Option Pred → Blasted
 stated_line p handler s line (Some (Rng pred)) = stated s (range_wire p s pred)
-stated_line p handler s line (Some (Alg pred)) = handler s pred
+stated_line p handler s line (Some (Alg pred)) = handler.stating s pred
 stated_line p handler s line None = stated s (exactness_wire p s line)
 
 abbrev pub predicate_in : Option Line → Option Pred
@@ -69,18 +74,18 @@ abbrev pub with_hyp : VersionedProgram → Handler → List Numbered → Blasted
 with_hyp p handler lemmas s (hyp.Line k) = stated_line p handler s (slice_get p.lines k) (predicate_in (slice_get p.lines k))
 with_hyp p handler lemmas s (hyp.Lemma n) = with_lemma s (lemma_of lemmas n)
 
--- a denied goal; an algebraic one gives nothing here
-abbrev pub denied_line : VersionedProgram → Blasted → Option Line → Option Pred → Blasted
-denied_line p s line (Some (Rng pred)) = denied s (range_wire p s pred)
-denied_line p s line (Some (Alg pred)) = s
-denied_line p s line None = denied s (exactness_wire p s line)
+-- a denied goal
+abbrev pub denied_line : VersionedProgram → Handler → Blasted → Option Line → Option Pred → Blasted
+denied_line p handler s line (Some (Rng pred)) = denied s (range_wire p s pred)
+denied_line p handler s line (Some (Alg pred)) = handler.denying s pred
+denied_line p handler s line None = denied s (exactness_wire p s line)
 
-abbrev pub denied_claim : VersionedProgram → Blasted → Claim → Blasted
-denied_claim p s (claim.Goal i) =
-    denied_line p s (slice_get p.lines (goal_place p.lines i)) (predicate_in (slice_get p.lines (goal_place p.lines i)))
-denied_claim p s (claim.Lemma m) = without_bits s m.clause
+abbrev pub denied_claim : VersionedProgram → Handler → Blasted → Claim → Blasted
+denied_claim p handler s (claim.Goal i) =
+    denied_line p handler s (slice_get p.lines (goal_place p.lines i)) (predicate_in (slice_get p.lines (goal_place p.lines i)))
+denied_claim p handler s (claim.Lemma m) = without_bits s m.clause
 
--- the parts of a fact in their order, with what is made of algebraic hypotheses
+-- the parts of a fact in their order, with what is made of algebraic lines
 abbrev pub used_of : VersionedProgram → List Numbered → Fact → Blasted
 used_of p lemmas fact = fold (with_use p) (blank (begun p lemmas fact)) fact.uses
 
@@ -88,10 +93,10 @@ abbrev pub assumed_of : VersionedProgram → Handler → List Numbered → Fact 
 assumed_of p handler lemmas fact = with_bits (fold (with_hyp p handler lemmas) (used_of p lemmas fact) fact.hyps) fact.cube
 
 abbrev pub blasted_by : VersionedProgram → Handler → List Numbered → Fact → Blasted
-blasted_by p handler lemmas fact = denied_claim p (assumed_of p handler lemmas fact) fact.claim
+blasted_by p handler lemmas fact = denied_claim p handler (assumed_of p handler lemmas fact) fact.claim
 
 abbrev pub blasted_of : VersionedProgram → List Numbered → Fact → Blasted
-blasted_of p lemmas fact = blasted_by p (with_fixed_bits p.variables) lemmas fact
+blasted_of p lemmas fact = blasted_by p (by_fixed_bits p.variables) lemmas fact
 
 -- the clauses of a fact
 unfoldable pub clauses_of : VersionedProgram → List Numbered → Fact → List (List ℕ)

@@ -2,6 +2,7 @@ pub mod Lifted
 pub mod Begin
 pub mod Blasted
 pub mod Clauses
+pub mod Handlers
 pub mod Laws
 pub mod Models
 pub mod Ends

@@ -3,12 +3,13 @@
 ghost use Rattle.std.specs.Prelude.{◌≡◌, ◌≤◌, ◌<◌, false, fold, length, slice_get, IfErr, IfOk, IsOk, OnOk, Some};
 ghost use Rattle.tcl_goals.specs.Order.{InOrder};
 ghost use Rattle.tcl_blast.specs.Begin.{begun};
-ghost use Rattle.tcl_blast.specs.Blasted.{blank, with_bits};
-ghost use Rattle.tcl_blast.specs.Clauses.{with_use, with_hyp, with_fixed_bits, used_of, assumed_of, hyp_atoms, clauses_of, clause_limit};
+ghost use Rattle.tcl_blast.specs.Blasted.{blank};
+ghost use Rattle.tcl_blast.specs.Clauses.{with_use, with_hyp, used_of, assumed_of, blasted_by, hyp_atoms, clause_limit};
 ghost use Rattle.tcl_blast.specs.Ends.{IsMade, IsBlastEnd, IsEnd};
 ghost use Rattle.tcl_blast.specs.Models.{is_algebraic_claim};
 ghost use Rattle.tcl_blast.specs.Ready.{CanUse, CanState};
 
+use crate::algebraic_lines::{FixedBits, LineCircuits};
 use crate::begin::begin;
 use crate::bits::add_bits;
 use crate::blasted::Blasted;
@@ -22,30 +23,51 @@ use tcl_lang::Ssa;
 /// The clauses of a fact: that variable 0 is true; the gates of the used instructions, by place; the hypotheses in order, a
 /// range or exactness hypothesis with its gates, a lemma by its clause, an equation by the bits that it fixes; the cube; and
 /// the denied claim. Variable `k + 1` is free bit `k`, where variables count by number and bits from the lowest.
-#[tactic(auto, using(crate::proofs::Counts::claim_end, crate::proofs::Counts::made_is))]
+#[tactic(auto, using(crate::proofs::Counts::whole_end, crate::proofs::Counts::made_is))]
 pub fn clauses(alloc: Global, ssa: &Ssa, fact: &Fact, lemmas: &Lemmas) -> Result<Cnf, BlastEnd>
     requires order { InOrder ssa.now lemmas.now.items fact.now }
     requires range { is_algebraic_claim ssa.now fact.now.claim ≡ false }
     ensures made { IfOk result (λ cnf. IsMade ssa.now lemmas.now.items fact.now cnf) }
     ensures end { IfErr result (λ end. IsBlastEnd ssa.now lemmas.now.items fact.now end) }
 {
-    let mut blasted = assumed(alloc, ssa, fact, lemmas)?;
-    deny_claim(alloc, &mut blasted, ssa, fact, lemmas)?;
+    clauses_by(alloc, &FixedBits, ssa, fact, lemmas)
+}
+
+/// The clauses of a fact in the order of its parts, where the circuits say what is made of algebraic lines.
+fn clauses_by<L: LineCircuits>(
+    alloc: Global,
+    circuits: &L,
+    ssa: &Ssa,
+    fact: &Fact,
+    lemmas: &Lemmas,
+) -> Result<Cnf, BlastEnd>
+    requires order { InOrder ssa.now lemmas.now.items fact.now }
+    ensures made { IfOk result (λ cnf. cnf ≡ (blasted_by ssa.now (L.handler circuits.now ssa.now) lemmas.now.items fact.now).clauses) }
+    ensures few { IfOk result (λ cnf. length cnf ≤ clause_limit) }
+    ensures end { IfErr result (λ end. IsEnd (blasted_by ssa.now (L.handler circuits.now ssa.now) lemmas.now.items fact.now).clauses end) }
+{
+    let mut blasted = assumed(alloc, circuits, ssa, fact, lemmas)?;
+    deny_claim(alloc, circuits, &mut blasted, ssa, fact, lemmas)?;
     check_count(&blasted.clauses)?;
     let Blasted { clauses, .. } = blasted;
     Ok(clauses)
 }
 
 /// The gates and clauses of all parts but the claim.
-#[tactic(auto, using(crate::proofs::Counts::used_end, crate::proofs::Counts::hyps_end))]
-fn assumed(alloc: Global, ssa: &Ssa, fact: &Fact, lemmas: &Lemmas) -> Result<Blasted, BlastEnd>
+fn assumed<L: LineCircuits>(
+    alloc: Global,
+    circuits: &L,
+    ssa: &Ssa,
+    fact: &Fact,
+    lemmas: &Lemmas,
+) -> Result<Blasted, BlastEnd>
     requires order { InOrder ssa.now lemmas.now.items fact.now }
-    ensures made { IfOk result (λ blasted. blasted ≡ assumed_of ssa.now (with_fixed_bits ssa.now.variables) lemmas.now.items fact.now) }
-    ensures end { IfErr result (λ end. IsBlastEnd ssa.now lemmas.now.items fact.now end) }
+    ensures made { IfOk result (λ blasted. blasted ≡ assumed_of ssa.now (L.handler circuits.now ssa.now) lemmas.now.items fact.now) }
+    ensures end { IfErr result (λ end. IsEnd (blasted_by ssa.now (L.handler circuits.now ssa.now) lemmas.now.items fact.now).clauses end) }
 {
     let mut blasted = first(alloc, ssa, fact, lemmas)?;
     add_uses(alloc, &mut blasted, ssa, fact, lemmas)?;
-    add_hyps(alloc, &mut blasted, ssa, fact, lemmas)?;
+    add_hyps(alloc, circuits, &mut blasted, ssa, fact, lemmas)?;
     add_bits(alloc, &mut blasted, fact.cube.as_slice())?;
     Ok(blasted)
 }
@@ -89,8 +111,9 @@ fn next_use(alloc: Global, blasted: &mut Blasted, ssa: &Ssa, place: u32) -> Resu
 }
 
 /// Appends the gates and clauses of the hypotheses.
-fn add_hyps(
+fn add_hyps<L: LineCircuits>(
     alloc: Global,
+    circuits: &L,
     blasted: &mut Blasted,
     ssa: &Ssa,
     fact: &Fact,
@@ -98,49 +121,49 @@ fn add_hyps(
 ) -> Result<(), BlastEnd>
     requires order { InOrder ssa.now lemmas.now.items fact.now }
     requires used { blasted.old ≡ used_of ssa.now lemmas.now.items fact.now }
-    ensures made { OnOk result (blasted.new ≡ fold (with_hyp ssa.now (with_fixed_bits ssa.now.variables) lemmas.now.items) blasted.old fact.now.hyps) }
-    ensures many { IfErr result (λ end. IsEnd (fold (with_hyp ssa.now (with_fixed_bits ssa.now.variables) lemmas.now.items) blasted.old fact.now.hyps).clauses end) }
+    ensures made { OnOk result (blasted.new ≡ fold (with_hyp ssa.now (L.handler circuits.now ssa.now) lemmas.now.items) blasted.old fact.now.hyps) }
+    ensures many { IfErr result (λ end. IsEnd (fold (with_hyp ssa.now (L.handler circuits.now ssa.now) lemmas.now.items) blasted.old fact.now.hyps).clauses end) }
 {
     let _form = ssa.lines();
     for k in 0..fact.hyps.len() {
-        next_hyp(alloc, blasted, ssa, lemmas, fact.hyps.at(k))?;
+        next_hyp(alloc, circuits, blasted, ssa, lemmas, fact.hyps.at(k))?;
     }
     Ok(())
 }
 
 /// Appends those of one hypothesis.
-fn next_hyp(
+fn next_hyp<L: LineCircuits>(
     alloc: Global,
+    circuits: &L,
     blasted: &mut Blasted,
     ssa: &Ssa,
     lemmas: &Lemmas,
     hyp: &Hyp,
 ) -> Result<(), BlastEnd>
     requires { CanState ssa.now blasted.old (hyp_atoms ssa.now.lines hyp.now) }
-    ensures made { OnOk result (blasted.new ≡ with_hyp ssa.now (with_fixed_bits ssa.now.variables) lemmas.now.items blasted.old hyp.now) }
-    ensures many { IfErr result (λ end. IsEnd (with_hyp ssa.now (with_fixed_bits ssa.now.variables) lemmas.now.items blasted.old hyp.now).clauses end) }
+    ensures made { OnOk result (blasted.new ≡ with_hyp ssa.now (L.handler circuits.now ssa.now) lemmas.now.items blasted.old hyp.now) }
+    ensures many { IfErr result (λ end. IsEnd (with_hyp ssa.now (L.handler circuits.now ssa.now) lemmas.now.items blasted.old hyp.now).clauses end) }
 {
-    add_hyp(alloc, blasted, ssa, lemmas, hyp)?;
+    add_hyp(alloc, circuits, blasted, ssa, lemmas, hyp)?;
     check_count(&blasted.clauses)
 }
 
 /// Appends what the denied claim says.
-#[tactic(auto, using(crate::proofs::Counts::denied_end))]
-fn deny_claim(
+fn deny_claim<L: LineCircuits>(
     alloc: Global,
+    circuits: &L,
     blasted: &mut Blasted,
     ssa: &Ssa,
     fact: &Fact,
     lemmas: &Lemmas,
 ) -> Result<(), BlastEnd>
     requires order { InOrder ssa.now lemmas.now.items fact.now }
-    requires assumed { blasted.old ≡ assumed_of ssa.now (with_fixed_bits ssa.now.variables) lemmas.now.items fact.now }
-    ensures made { OnOk result (blasted.new.clauses ≡ clauses_of ssa.now lemmas.now.items fact.now) }
-    ensures end { IfErr result (λ end. IsBlastEnd ssa.now lemmas.now.items fact.now end) }
+    requires assumed { blasted.old ≡ assumed_of ssa.now (L.handler circuits.now ssa.now) lemmas.now.items fact.now }
+    ensures made { OnOk result (blasted.new ≡ blasted_by ssa.now (L.handler circuits.now ssa.now) lemmas.now.items fact.now) }
+    ensures end { IfErr result (λ end. IsEnd (blasted_by ssa.now (L.handler circuits.now ssa.now) lemmas.now.items fact.now).clauses end) }
 {
     let _form = ssa.lines();
-    deny(alloc, blasted, ssa, &fact.claim)?;
-    Ok(())
+    deny(alloc, circuits, blasted, ssa, &fact.claim)
 }
 
 /// Whether there are not too many clauses.

@@ -1,6 +1,7 @@
 //! The clauses of a fact: what it means that they can't all be met, and the input of a model.
 #![tactic(auto)]
 
+mod algebraic_lines;
 mod begin;
 mod bits;
 mod blasted;

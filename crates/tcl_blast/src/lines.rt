@@ -9,12 +9,12 @@ ghost use Rattle.tcl_words.specs.Stores.{HaveWidths};
 ghost use Rattle.tcl_blast.specs.Blasted.{grown, stated, denied};
 ghost use Rattle.tcl_blast.specs.Ends.{IsEnd};
 ghost use Rattle.tcl_blast.specs.Lifted.{HasTerm};
-ghost use Rattle.tcl_blast.specs.Clauses.{with_use, range_wire, exactness_wire, with_fixed_bits, stated_line, predicate_in, with_lemma, with_hyp, denied_line, denied_claim, hyp_atoms, claim_atoms};
+ghost use Rattle.tcl_blast.specs.Clauses.{with_use, range_wire, exactness_wire, stated_line, predicate_in, with_lemma, with_hyp, denied_line, denied_claim, hyp_atoms, claim_atoms};
 
-use crate::bits::{add_bits, add_choice, deny_bits};
+use crate::algebraic_lines::LineCircuits;
+use crate::bits::{add_choice, deny_bits};
 use crate::blasted::Blasted;
 use crate::ended::{BlastEnd, CLAUSE_LIMIT};
-use crate::lifted::fixed_bits;
 use crate::sizes::pred_size;
 use std::alloc::{AllocError, Global};
 use tcl_cnf::Lit;
@@ -143,20 +143,22 @@ fn predicate_at(ssa: &Ssa, place: u32) -> Option<&Pred>
 }
 
 /// Appends what a line says that is a hypothesis: the gates of a range predicate or an exactness condition with the clause
-/// that it is true, and of an equation the bits that it fixes.
-fn add_line(alloc: Global, blasted: &mut Blasted, ssa: &Ssa, place: u32) -> Result<(), BlastEnd>
+/// that it is true, and of an equation what the circuits make of it.
+fn add_line<L: LineCircuits>(
+    alloc: Global,
+    circuits: &L,
+    blasted: &mut Blasted,
+    ssa: &Ssa,
+    place: u32,
+) -> Result<(), BlastEnd>
     requires within { AllWithin (length blasted.old.gates) blasted.old.words }
     requires widths { HaveWidths blasted.old.words ssa.now.variables (atoms_of (slice_get ssa.now.lines place)) }
-    ensures made { OnOk result (blasted.new ≡ stated_line ssa.now (with_fixed_bits ssa.now.variables) blasted.old (slice_get ssa.now.lines place) (predicate_in (slice_get ssa.now.lines place))) }
-    ensures many { IfErr result (λ end. IsEnd (stated_line ssa.now (with_fixed_bits ssa.now.variables) blasted.old (slice_get ssa.now.lines place) (predicate_in (slice_get ssa.now.lines place))).clauses end) }
+    ensures made { OnOk result (blasted.new ≡ stated_line ssa.now (L.handler circuits.now ssa.now) blasted.old (slice_get ssa.now.lines place) (predicate_in (slice_get ssa.now.lines place))) }
+    ensures many { IfErr result (λ end. IsEnd (stated_line ssa.now (L.handler circuits.now ssa.now) blasted.old (slice_get ssa.now.lines place) (predicate_in (slice_get ssa.now.lines place))).clauses end) }
 {
     match predicate_at(ssa, place) {
         Some(Pred::Rng(pred)) => add_range(alloc, blasted, ssa, pred),
-        Some(Pred::Alg(pred)) => {
-            let bits = fixed_bits(alloc, ssa.variables().as_slice(), pred)?;
-            add_bits(alloc, blasted, bits.as_slice())?;
-            Ok(())
-        }
+        Some(Pred::Alg(pred)) => circuits.state(alloc, blasted, ssa, pred),
         None => {
             let lit = exactness_lit(alloc, blasted, ssa, place)?;
             blasted.add_unit(alloc, lit)?;
@@ -165,16 +167,23 @@ fn add_line(alloc: Global, blasted: &mut Blasted, ssa: &Ssa, place: u32) -> Resu
     }
 }
 
-/// Appends what a denied goal says: the gates of its range predicate or exactness condition with the clause that it is false.
-fn deny_line(alloc: Global, blasted: &mut Blasted, ssa: &Ssa, place: u32) -> Result<(), BlastEnd>
+/// Appends what a denied goal says: the gates of its range predicate or exactness condition with the clause that it is false,
+/// and of an equation what the circuits make of it.
+fn deny_line<L: LineCircuits>(
+    alloc: Global,
+    circuits: &L,
+    blasted: &mut Blasted,
+    ssa: &Ssa,
+    place: u32,
+) -> Result<(), BlastEnd>
     requires within { AllWithin (length blasted.old.gates) blasted.old.words }
     requires widths { HaveWidths blasted.old.words ssa.now.variables (atoms_of (slice_get ssa.now.lines place)) }
-    ensures made { OnOk result (blasted.new ≡ denied_line ssa.now blasted.old (slice_get ssa.now.lines place) (predicate_in (slice_get ssa.now.lines place))) }
-    ensures many { IfErr result (λ end. IsEnd (denied_line ssa.now blasted.old (slice_get ssa.now.lines place) (predicate_in (slice_get ssa.now.lines place))).clauses end) }
+    ensures made { OnOk result (blasted.new ≡ denied_line ssa.now (L.handler circuits.now ssa.now) blasted.old (slice_get ssa.now.lines place) (predicate_in (slice_get ssa.now.lines place))) }
+    ensures many { IfErr result (λ end. IsEnd (denied_line ssa.now (L.handler circuits.now ssa.now) blasted.old (slice_get ssa.now.lines place) (predicate_in (slice_get ssa.now.lines place))).clauses end) }
 {
     match predicate_at(ssa, place) {
         Some(Pred::Rng(pred)) => deny_range(alloc, blasted, ssa, pred),
-        Some(Pred::Alg(_)) => Ok(()),
+        Some(Pred::Alg(pred)) => circuits.deny(alloc, blasted, ssa, pred),
         None => {
             let lit = exactness_lit(alloc, blasted, ssa, place)?;
             blasted.add_unit(alloc, lit.negation())?;
@@ -212,8 +221,9 @@ fn lemma_of(lemmas: &[Numbered], number: u32) -> Option<&Lemma>
 }
 
 /// Appends a hypothesis.
-pub(crate) fn add_hyp(
+pub(crate) fn add_hyp<L: LineCircuits>(
     alloc: Global,
+    circuits: &L,
     blasted: &mut Blasted,
     ssa: &Ssa,
     lemmas: &Lemmas,
@@ -221,11 +231,11 @@ pub(crate) fn add_hyp(
 ) -> Result<(), BlastEnd>
     requires within { AllWithin (length blasted.old.gates) blasted.old.words }
     requires widths { HaveWidths blasted.old.words ssa.now.variables (hyp_atoms ssa.now.lines hyp.now) }
-    ensures made { OnOk result (blasted.new ≡ with_hyp ssa.now (with_fixed_bits ssa.now.variables) lemmas.now.items blasted.old hyp.now) }
-    ensures many { IfErr result (λ end. IsEnd (with_hyp ssa.now (with_fixed_bits ssa.now.variables) lemmas.now.items blasted.old hyp.now).clauses end) }
+    ensures made { OnOk result (blasted.new ≡ with_hyp ssa.now (L.handler circuits.now ssa.now) lemmas.now.items blasted.old hyp.now) }
+    ensures many { IfErr result (λ end. IsEnd (with_hyp ssa.now (L.handler circuits.now ssa.now) lemmas.now.items blasted.old hyp.now).clauses end) }
 {
     match hyp {
-        Hyp::Line(place) => add_line(alloc, blasted, ssa, *place),
+        Hyp::Line(place) => add_line(alloc, circuits, blasted, ssa, *place),
         Hyp::Lemma(number) => {
             add_lemma(alloc, blasted, lemmas.items().as_slice(), *number)?;
             Ok(())
@@ -234,21 +244,22 @@ pub(crate) fn add_hyp(
 }
 
 /// Appends a denied claim.
-pub(crate) fn deny(
+pub(crate) fn deny<L: LineCircuits>(
     alloc: Global,
+    circuits: &L,
     blasted: &mut Blasted,
     ssa: &Ssa,
     claim: &Claim,
 ) -> Result<(), BlastEnd>
     requires within { AllWithin (length blasted.old.gates) blasted.old.words }
     requires widths { HaveWidths blasted.old.words ssa.now.variables (claim_atoms ssa.now.lines claim.now) }
-    ensures made { OnOk result (blasted.new ≡ denied_claim ssa.now blasted.old claim.now) }
-    ensures many { IfErr result (λ end. IsEnd (denied_claim ssa.now blasted.old claim.now).clauses end) }
+    ensures made { OnOk result (blasted.new ≡ denied_claim ssa.now (L.handler circuits.now ssa.now) blasted.old claim.now) }
+    ensures many { IfErr result (λ end. IsEnd (denied_claim ssa.now (L.handler circuits.now ssa.now) blasted.old claim.now).clauses end) }
 {
     match claim {
         Claim::Goal(goal) => {
             let place = goal_place(ssa.lines().as_slice(), *goal) as u32;
-            deny_line(alloc, blasted, ssa, place)
+            deny_line(alloc, circuits, blasted, ssa, place)
         }
         Claim::Lemma(lemma) => {
             deny_bits(alloc, blasted, lemma.clause.as_slice())?;
