@@ -7,13 +7,14 @@ use Rattle.tcl_cnf.specs.Literal.{neg}
 use Rattle.tcl_cnf.specs.Clause.{has, IsClause}
 use Rattle.tcl_cnf.proofs.Bools.{true-false}
 use Rattle.tcl_cnf.proofs.Clauses.{are_clauses_push}
-use Rattle.tcl_cnf.proofs.Entries.{get-last}
+use Rattle.tcl_cnf.proofs.Entries.{get-last, get-append}
 use Rattle.tcl_trail.specs.declared.entry.Entry.{Entry}
 use Rattle.tcl_trail.specs.declared.pair.Pair.{Pair}
+use Rattle.tcl_trail.specs.declared.pair.Watch.{Watch}
 use Rattle.tcl_trail.specs.Assignment.{lits_of, up_to}
 use Rattle.tcl_trail.specs.Trail.{TrailState, IsTrail, lit_variables, variable_count, IsEntry, HasGrown}
 use Rattle.tcl_trail.specs.Assigned.{AssignedState}
-use Rattle.tcl_trail.specs.Watching.{WatchState, listed, SameLists, MoreLists, IsCut, IsSeen, BothSeen, IsPaired, AreWatched, AreSeen, IsWatching, IsHeld, IsChosen, IsKept}
+use Rattle.tcl_trail.specs.Watching.{WatchState, watches, numbers_of, AreBlocked, listed, SameLists, MoreLists, IsCut, IsSeen, BothSeen, IsPaired, AreWatched, AreSeen, IsWatching, IsHeld, IsChosen, IsKept}
 use Rattle.tcl_trail.proofs.Entries.{get_has, has_get, lits-append}
 use Rattle.tcl_trail.proofs.Looks.{still, added}
 use Rattle.tcl_trail.proofs.Trails.{trail_none, lit_counted, trail_more, trail_take, count-append, clause_counted, has_or}
@@ -31,27 +32,19 @@ clauses_next cs k c old new e f g =
     let made : List (List ℕ) → TrailState = λ x. record { clauses = x; entries = [] } in
     g ∙ ap more f ∙ ap made (sym (take_next cs k c e))
 
--- lists with more numbers
-pub more_same : (lists : List (List ℕ)) → MoreLists lists lists
-more_same lists = record { kept = λ l k h. h; long = refl }
+-- a clause more
+pub blocked_more : (clauses : List (List ℕ)) (c : List ℕ) (lists : List (List Watch)) → AreBlocked clauses lists → AreBlocked (clauses ++ c ∷ []) lists
+blocked_more clauses c lists b = record {
+  below = λ l j w at. omega (arith, b.below l j w at, length-append clauses (c ∷ []));
+  in_it = λ l j w d at there. b.in_it l j w d at (sym (get-append clauses (c ∷ []) w.number (b.below l j w at)) ∙ there);
+}
 
-pub more_trans : (a b c : List (List ℕ)) → MoreLists a b → MoreLists b c → MoreLists a c
-more_trans a b c f g = record { kept = λ l k h. g.kept l k (f.kept l k h); long = g.long ∙ f.long }
+pub blocked_same : (clauses : List (List ℕ)) (old new : List (List Watch)) → SameLists old new → AreBlocked clauses old → AreBlocked clauses new
+blocked_same clauses old new s b =
+    let back : (l j : ℕ) → slice_get (watches new l) j ≡ slice_get (watches old l) j = λ l j. ap (λ (x : List Watch). slice_get x j) (s.at_each l) in
+    record { below = λ l j w at. b.below l j w (sym (back l j) ∙ at); in_it = λ l j w c at there. b.in_it l j w c (sym (back l j) ∙ at) there }
 
-pub enlisted : (lists new : List (List ℕ)) (to number : ℕ) → to < length lists → new ≡ set lists to (listed lists to ++ number ∷ []) → MoreLists lists new × (has number (listed new to) ≡ true)
-enlisted lists new to number h e =
-    let there : listed new to ≡ listed lists to ++ number ∷ [] = ap (λ x. listed x to) e ∙ (rw get_or-set_same refl) in (
-      record {
-        kept = λ l k t. elim (cases_eq l to) [
-          | inl s ↦ ap (has k) (ap (listed new) s ∙ there) ∙ still k (listed lists to) number (subst (λ (x : ℕ). has k (listed lists x) ≡ true) s t)
-          | inr d ↦ let apart : l ≢ to = d in ap (λ x. has k (listed x l)) e ∙ (rw get_or-set_other t)
-        ];
-        long = ap length e ∙ length-set lists to (listed lists to ++ number ∷ []);
-      },
-      ap (has number) there ∙ added (listed lists to) number,
-    )
-
-paired_more : (old new : List (List ℕ)) (k : ℕ) (c : List ℕ) (p : Pair) → ((l k : ℕ) → has k (listed old l) ≡ true → has k (listed new l) ≡ true) → IsPaired old k c p → IsPaired new k c p
+paired_more : (old new : List (List Watch)) (k : ℕ) (c : List ℕ) (p : Pair) → ((l k : ℕ) → has k (listed old l) ≡ true → has k (listed new l) ≡ true) → IsPaired old k c p → IsPaired new k c p
 paired_more old new k c p m i = record {
   first_in = i.first_in;
   second_in = i.second_in;
@@ -61,9 +54,9 @@ paired_more old new k c p m i = record {
 }
 
 -- lists with more numbers, and fewer entries seen
-pub watching_lists : (clauses : List (List ℕ)) (es : List Entry) (w w' : WatchState) → IsWatching clauses es w → ((l k : ℕ) → has k (listed w.lists l) ≡ true → has k (listed w'.lists l) ≡ true) → w'.pairs ≡ w.pairs → w'.shorts ≡ w.shorts
+pub watching_lists : (clauses : List (List ℕ)) (es : List Entry) (w w' : WatchState) → IsWatching clauses es w → ((l k : ℕ) → has k (listed w.lists l) ≡ true → has k (listed w'.lists l) ≡ true) → AreBlocked clauses w'.lists → w'.pairs ≡ w.pairs → w'.shorts ≡ w.shorts
     → w'.head ≤ w.head → IsWatching clauses es w'
-watching_lists clauses es w w' i m p s h =
+watching_lists clauses es w w' i m blocked p s h =
     let short : (k : ℕ) → has k w'.shorts ≡ has k w.shorts = λ k. ap (has k) s in
     let pair : (k : ℕ) → slice_get w'.pairs k ≡ slice_get w.pairs k = λ k. ap (λ (x : List Pair). slice_get x k) p in
     record {
@@ -79,10 +72,11 @@ watching_lists clauses es w w' i m p s h =
             record { first = seen_less es w.head w'.head q.first c h b.first; second = seen_less es w.head w'.head q.second c h b.second };
       };
       within = omega (arith, i.within, h);
+      blocked = blocked;
     }
 
-pub same_more : (old new : List (List ℕ)) → SameLists old new → (l k : ℕ) → has k (listed old l) ≡ true → has k (listed new l) ≡ true
-same_more old new s l k t = ap (has k) (s.at_each l) ∙ t
+pub same_more : (old new : List (List Watch)) → SameLists old new → (l k : ℕ) → has k (listed old l) ≡ true → has k (listed new l) ≡ true
+same_more old new s l k t = ap (has k) (ap numbers_of (s.at_each l)) ∙ t
 
 not_last : (clauses : List (List ℕ)) (k : ℕ) (c : List ℕ) → slice_get clauses k ≡ Some c → k ≡ length clauses → ⊥
 not_last clauses k c at e = omega (arith, slice_get_within clauses k c at, e)
@@ -91,7 +85,7 @@ pub shorter : (x n m : ℕ) (ls : List ℕ) → n ≤ m → has x (take m ls) �
 shorter x n m ls h f = elim (cases_Bool (has x (take n ls))) [ inl t ↦ absurd (true-false (has x (take m ls)) (front_more ls n m x h t) f) | inr g ↦ g ]
 
 -- a clause more that is watched
-pub watching_pair : (clauses : List (List ℕ)) (es : List Entry) (w w' : WatchState) (c : List ℕ) (p : Pair) (limit number : ℕ) → IsWatching clauses es w → IsChosen (lits_of es) c p limit → number ≡ length clauses → MoreLists w.lists w'.lists
+pub watching_pair : (clauses : List (List ℕ)) (es : List Entry) (w w' : WatchState) (c : List ℕ) (p : Pair) (limit number : ℕ) → IsWatching clauses es w → IsChosen (lits_of es) c p limit → number ≡ length clauses → MoreLists w.lists w'.lists (record { number = number; blocker = p.second }) (record { number = number; blocker = p.first })
     → has number (listed w'.lists p.first) ≡ true → has number (listed w'.lists p.second) ≡ true → w'.pairs ≡ w.pairs ++ p ∷ [] → w'.shorts ≡ w.shorts → w'.head ≤ w.head → w'.head ≤ limit → IsWatching (clauses ++ c ∷ []) es w'
 watching_pair clauses es w w' c p limit number i o n m f g e s h low =
     let short : (k : ℕ) → has k w'.shorts ≡ has k w.shorts = λ k. ap (has k) s in
@@ -104,6 +98,10 @@ watching_pair clauses es w w' c p limit number i o n m f g e s h low =
     let first : IsSeen es w'.head c p.first = seen_clear es w'.head p.first c (shorter (neg p.first) w'.head limit (lits_of es) low o.first_clear) in
     let second : IsSeen es w'.head c p.second = seen_clear es w'.head p.second c (shorter (neg p.second) w'.head limit (lits_of es) low o.second_clear) in
     let both : BothSeen es w'.head c p = record { first = first; second = second } in
+    let new_blocker : (v : Watch) (d : List ℕ) (b : ℕ) → v.number ≡ number → v.blocker ≡ b → has b c ≡ true → slice_get (clauses ++ c ∷ []) v.number ≡ Some d → has v.blocker d ≡ true = λ v d b x y t there. elim (get-last clauses c v.number d there) [
+      | inl a ↦ absurd (not_last clauses v.number d a (x ∙ n))
+      | inr a ↦ ap (λ z. has z d) y ∙ ap (has b) a.1 ∙ t
+    ] in
     record {
       watched = record {
         paired = λ k d q at t x. elim (get-last clauses c k d at) [
@@ -138,6 +136,22 @@ watching_pair clauses es w w' c p limit number i o n m f g e s h low =
         ];
       };
       within = omega (arith, i.within, h);
+      blocked = record {
+        below = λ l j v at. elim (m.each l j v at) [
+          | inl r ↦ omega (arith, i.blocked.below l r.0 v r.1, length-append clauses (c ∷ []))
+          | inr r ↦ elim r [
+            | inl e ↦ omega (arith, ap (λ (x : Watch). x.number) e, n, length-append clauses (c ∷ []))
+            | inr e ↦ omega (arith, ap (λ (x : Watch). x.number) e, n, length-append clauses (c ∷ []))
+          ]
+        ];
+        in_it = λ l j v d at there. elim (m.each l j v at) [
+          | inl r ↦ (blocked_more clauses c w.lists i.blocked).in_it l r.0 v d r.1 there
+          | inr r ↦ elim r [
+            | inl e ↦ new_blocker v d p.second (ap (λ (x : Watch). x.number) e) (ap (λ (x : Watch). x.blocker) e) o.second_in there
+            | inr e ↦ new_blocker v d p.first (ap (λ (x : Watch). x.number) e) (ap (λ (x : Watch). x.blocker) e) o.first_in there
+          ]
+        ];
+      };
     }
 
 -- a clause more that is not watched
@@ -182,6 +196,7 @@ watching_short clauses es w w' c p number i same n e =
         ];
       };
       within = i.within;
+      blocked = blocked_more clauses c w.lists i.blocked;
     } in
     subst (λ (x : WatchState). IsWatching (clauses ++ c ∷ []) es x) (sym e) all
 
@@ -197,6 +212,7 @@ watching_back clauses es es' level w w' i e s h low =
             record { first = seen_cut es cut.0 w.head w'.head q.first c cut.1 h b.first; second = seen_cut es cut.0 w.head w'.head q.second c cut.1 h b.second };
       };
       within = omega (arith, low, ap length (e ∙ sym cut.2));
+      blocked = i.blocked;
     } in
     subst (λ (x : WatchState). IsWatching clauses es' x) (sym s) (subst (λ (x : List Entry). IsWatching clauses x (record w { head = w'.head })) (cut.2 ∙ sym e) all)
 
@@ -219,6 +235,7 @@ watching_push clauses es es' e w i s =
             record { first = seen_grown es (es ++ e ∷ []) w.head q.first c i.within front b.first; second = seen_grown es (es ++ e ∷ []) w.head q.second c i.within front b.second };
       };
       within = omega (arith, i.within, length-append es (e ∷ []));
+      blocked = i.blocked;
     })
 
 -- room for more variables
@@ -251,7 +268,7 @@ pub kept_wider : (clauses : List (List ℕ)) (a a' : AssignedState) (w w' : Watc
 kept_wider clauses a a' w w' n m i h e s f = record {
   held = held_wider clauses a a' m i.held h e;
   watching = subst (λ (x : List Entry). IsWatching clauses x w') (sym (ap (λ (x : AssignedState). x.entries) e))
-      (watching_lists clauses a.entries w w' i.watching (same_more w.lists w'.lists s) (ap (λ (x : WatchState). x.pairs) f) (ap (λ (x : WatchState). x.shorts) f) (omega (arith, ap (λ (x : WatchState). x.head) f)));
+      (watching_lists clauses a.entries w w' i.watching (same_more w.lists w'.lists s) (blocked_same clauses w.lists w'.lists s i.watching.blocked) (ap (λ (x : WatchState). x.pairs) f) (ap (λ (x : WatchState). x.shorts) f) (omega (arith, ap (λ (x : WatchState). x.head) f)));
   counted = i.counted;
 }
 
@@ -276,17 +293,19 @@ chosen_is trues c first second skip n m limit a b i j d s p q f g h k = record {
 }
 
 -- before a clause is added, fewer entries count as seen, and it may stand in lists already
-pub added_err : (clauses : List (List ℕ)) (es : List Entry) (w v w' : WatchState) → IsWatching clauses es w → v ≡ record w { head = v.head } → v.head ≤ w.head → MoreLists v.lists w'.lists → w' ≡ record v { lists = w'.lists } → IsWatching clauses es w'
-added_err clauses es w v w' i e h m f =
-    watching_lists clauses es w w' i (λ l k t. m.kept l k (ap (λ (x : WatchState). has k (listed x.lists l)) e ∙ t)) (ap (λ (x : WatchState). x.pairs) f ∙ ap (λ (x : WatchState). x.pairs) e)
-    (ap (λ (x : WatchState). x.shorts) f ∙ ap (λ (x : WatchState). x.shorts) e) (omega (arith, h, ap (λ (x : WatchState). x.head) f))
+pub added_err : (clauses : List (List ℕ)) (es : List Entry) (w v w' : WatchState) → IsWatching clauses es w → v ≡ record w { head = v.head } → v.head ≤ w.head → w' ≡ v → IsWatching clauses es w'
+added_err clauses es w v w' i e h f =
+    let same : v.lists ≡ w.lists = ap (λ (x : WatchState). x.lists) e in
+    subst (λ (x : WatchState). IsWatching clauses es x) (sym f)
+    (watching_lists clauses es w v i (λ l k t. ap (λ (x : List (List Watch)). has k (listed x l)) same ∙ t) (subst (λ (x : List (List Watch)). AreBlocked clauses x) (sym same) i.blocked)
+    (ap (λ (x : WatchState). x.pairs) e) (ap (λ (x : WatchState). x.shorts) e) h)
 
 pub added_ok : (clauses : List (List ℕ)) (es : List Entry) (w v w' : WatchState) (c : List ℕ) (p : Pair) (limit number : ℕ) → IsWatching clauses es w → IsChosen (lits_of es) c p limit → number ≡ length clauses
-    → v ≡ record w { head = v.head } → v.head ≤ w.head → v.head ≤ limit → MoreLists v.lists w'.lists → has number (listed w'.lists p.first) ≡ true → has number (listed w'.lists p.second) ≡ true
+    → v ≡ record w { head = v.head } → v.head ≤ w.head → v.head ≤ limit → MoreLists v.lists w'.lists (record { number = number; blocker = p.second }) (record { number = number; blocker = p.first }) → has number (listed w'.lists p.first) ≡ true → has number (listed w'.lists p.second) ≡ true
     → w' ≡ record v { lists = w'.lists; pairs = v.pairs ++ p ∷ [] } → IsWatching (clauses ++ c ∷ []) es w'
 added_ok clauses es w v w' c p limit number i o n e h low m f g s =
     let same : w'.head ≡ v.head = ap (λ (x : WatchState). x.head) s in
-    watching_pair clauses es w w' c p limit number i o n (record { kept = λ l k t. m.kept l k (ap (λ (x : WatchState). has k (listed x.lists l)) e ∙ t); long = m.long ∙ ap (λ (x : WatchState). length x.lists) e }) f g
+    watching_pair clauses es w w' c p limit number i o n (subst (λ (x : List (List Watch)). MoreLists x w'.lists (record { number = number; blocker = p.second }) (record { number = number; blocker = p.first })) (ap (λ (x : WatchState). x.lists) e) m) f g
     (ap (λ (x : WatchState). x.pairs) s ∙ ap (λ (x : WatchState). x.pairs ++ p ∷ []) e) (ap (λ (x : WatchState). x.shorts) s ∙ ap (λ (x : WatchState). x.shorts) e) (omega (arith, h, same)) (omega (arith, low, same))
 
 pub pushed_is : (clauses base new : List (List ℕ)) (x c : List ℕ) → new ≡ base ++ x ∷ [] → base ≡ clauses → x ≡ c → new ≡ clauses ++ c ∷ []

@@ -11,14 +11,16 @@ use Rattle.tcl_cnf.proofs.Entries.{get-take, get-in_take}
 use Rattle.tcl_cnf.proofs.Freshness.{false_each, each_false, in_without, from_without}
 use Rattle.tcl_trail.specs.declared.entry.Entry.{Entry}
 use Rattle.tcl_trail.specs.declared.pair.Pair.{Pair}
+use Rattle.tcl_trail.specs.declared.pair.Watch.{Watch}
 use Rattle.tcl_trail.specs.Assignment.{lits_of}
 use Rattle.tcl_trail.specs.Trail.{HasGrown, IsFalseAt, IsEntry, TrailState}
 use Rattle.tcl_trail.specs.Assigned.{AssignedState}
-use Rattle.tcl_trail.specs.Watching.{WatchState, listed, HasTrue, IsSeen, BothSeen, IsPaired, AreWatched, AreSeen, IsWatching, IsHeld, IsLastLevel, IsNext, AreVisited, IsFree, AreFalseBetween, IsRewatched}
+use Rattle.tcl_trail.specs.Watching.{WatchState, watches, listed, HasTrue, IsSeen, BothSeen, IsPaired, AreWatched, AreSeen, IsWatching, IsHeld, IsLastLevel, IsNext, AreVisited, IsFree, AreFalseBetween, IsRewatched}
 use Rattle.tcl_trail.specs.Visits.{IsOther, HasNoOther, Visits, VisitKept, VisitMoved, IsGiven, GivesFalse, Drains}
 use Rattle.tcl_trail.proofs.Entries.{has_get, get_has, get_in_front, has_front, lits-take, lits-append, length-lits, lits-get}
 use Rattle.tcl_trail.proofs.Looks.{added}
 use Rattle.tcl_trail.proofs.Trails.{consistent}
+use Rattle.tcl_trail.proofs.Shifting.{numbers_at}
 use Rattle.tcl_trail.proofs.Growth.{grown_same, grown_push, grown_trans}
 use Rattle.tcl_trail.proofs.Facts.{get-set_same, get-set_other}
 use Rattle.tcl_trail.proofs.Seen.{quiet_seen, seen_grown, seen_less, seen_clear, seen_pass, seen_true}
@@ -32,6 +34,7 @@ watching_grown clauses es es' w g i = record {
   watched = i.watched;
   seen = record { each = λ k c p at s there. both_grown es es' w.head c p i.within g (i.seen.each k c p at s there) };
   within = omega (arith, i.within, g.longer);
+  blocked = i.blocked;
 }
 
 pub next_within : (es : List Entry) (head l : ℕ) → IsNext es head l → head < length es
@@ -143,6 +146,17 @@ both_next es head l other c p next o i t seen =
     let holds : HasTrue (lits_of es) c = record { lit = other; in_it = i; holds = t } in
     record { first = seen_true es head p.first c next.last holds seen.first; second = seen_true es head p.second c next.last holds seen.second }
 
+-- the watch's other literal is true
+pub kept_blocked : (clauses : List (List ℕ)) (a : AssignedState) (w : WatchState) (l i : ℕ) (v : Watch) → IsWatching clauses a.entries w → IsNext a.entries w.head l → AreVisited clauses w a.entries l i → slice_get (watches w.lists l) i ≡ Some v
+    → has v.blocker (lits_of a.entries) ≡ true → VisitKept clauses a w w l i
+kept_blocked clauses a w l i v watching next seen at t = record {
+  visited = visited_more clauses w a.entries l i v.number seen (numbers_at (watches w.lists l) i v at) (λ c p there s pair.
+      let holds : HasTrue (lits_of a.entries) c = record { lit = v.blocker; in_it = watching.blocked.in_it l i v c at there; holds = t } in
+      let both = watching.seen.each v.number c p there s pair in
+      record { first = seen_true a.entries w.head p.first c next.last holds both.first; second = seen_true a.entries w.head p.second c next.last holds both.second });
+  count = refl;
+}
+
 -- the other watched literal is true
 pub kept_true : (clauses : List (List ℕ)) (a : AssignedState) (w : WatchState) (l i k other : ℕ) (p : Pair) → IsWatching clauses a.entries w → IsNext a.entries w.head l → AreVisited clauses w a.entries l i → slice_get (listed w.lists l) i ≡ Some k
     → slice_get w.pairs k ≡ Some p → IsOther p l other → has other (lits_of a.entries) ≡ true → VisitKept clauses a w w l i
@@ -228,6 +242,16 @@ moved_is clauses a w w' l i k other lit from c p held watching next v there pair
                 ]);
           };
           within = omega (arith, r.head, watching.within);
+          blocked = record {
+            below = λ m j v at_new. elim (r.shifted.each m j v at_new) [
+              | inl q ↦ watching.blocked.below m q.0 v q.1
+              | inr e ↦ omega (arith, ap (λ (x : Watch). x.number) e, slice_get_within clauses k c there)
+            ];
+            in_it = λ m j v d at_new f. elim (r.shifted.each m j v at_new) [
+              | inl q ↦ watching.blocked.in_it m q.0 v d q.1 f
+              | inr e ↦ ap (λ (x : Watch). has x.blocker d) e ∙ ap (has other) (sym (same_clause v.number d (ap (λ (x : Watch). x.number) e) f)) ∙ in_it.0
+            ];
+          };
         };
         grown = grown_same a.entries;
         head = r.head;
@@ -287,7 +311,7 @@ pub watching_next : (clauses : List (List ℕ)) (es : List Entry) (w w' : WatchS
     → w' ≡ record w { head = w.head + 1 } → IsWatching clauses es w'
 watching_next clauses es w w' l i watching next v h e =
     subst (λ (x : WatchState). IsWatching clauses es x) (sym e)
-    (record { watched = record { paired = watching.watched.paired; single = watching.watched.single; below = watching.watched.below; counted = watching.watched.counted }; seen = record { each = (seen_next clauses es w l i watching next v h).each }; within = omega (arith, next_within es w.head l next) })
+    (record { watched = record { paired = watching.watched.paired; single = watching.watched.single; below = watching.watched.below; counted = watching.watched.counted }; seen = record { each = (seen_next clauses es w l i watching next v h).each }; within = omega (arith, next_within es w.head l next); blocked = watching.blocked })
 
 -- the literal that became false is not one that is not false
 pub next_apart : (es : List Entry) (head l m other : ℕ) (c : List ℕ) → IsNext es head l → IsFree (lits_of es) c other m → l ≡ m → ⊥

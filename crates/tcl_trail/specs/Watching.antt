@@ -1,10 +1,11 @@
 -- Two watched literals a clause (Moskewicz, Madigan, Zhao, Zhang, Malik, DAC 2001). No public clause cites this file.
-use Rattle.std.specs.Prelude.{◌≡◌, ℕ, ◌+◌, ◌*◌, ◌<◌, ◌≤◌, ◌^◌, Bool, true, false, Option, Some, None, List, [], ◌∷◌, ◌++◌, length, take, slice_get, slice_set, slice_index_or}
+use Rattle.std.specs.Prelude.{◌≡◌, ℕ, ◌+◌, ◌*◌, ◌<◌, ◌≤◌, ◌^◌, Bool, true, false, Option, Some, None, List, [], ◌∷◌, ◌++◌, length, take, slice_get, slice_set, slice_index_or, swap_remove, map, ◌⊎◌}
 use Rattle.tcl_cnf.specs.Literal.{neg}
 use Rattle.tcl_cnf.specs.Clause.{has, without, AreClauses}
 use Rattle.tcl_cnf.specs.Propagation.{is_false, IsClosed}
 use Rattle.tcl_trail.specs.declared.entry.Entry.{Entry}
 use Rattle.tcl_trail.specs.declared.pair.Pair.{Pair}
+use Rattle.tcl_trail.specs.declared.pair.Watch.{Watch}
 use Rattle.tcl_trail.specs.Assignment.{lits_of}
 use Rattle.tcl_trail.specs.Trail.{IsTrail, variable_count}
 use Rattle.tcl_trail.specs.Assigned.{AssignedState}
@@ -12,25 +13,47 @@ use Rattle.tcl_trail.specs.Assigned.{AssignedState}
 -- the clauses that watch each literal; the watched literals of each clause; the clauses that are not watched; how many
 -- entries were seen by all who watch their negations
 pub record WatchState : Type 0 where
-  pub lists : List (List ℕ)
+  pub lists : List (List Watch)
   pub pairs : List Pair
   pub shorts : List ℕ
   pub head : ℕ
 
-abbrev pub listed : List (List ℕ) → ℕ → List ℕ
-listed lists l = slice_index_or lists l []
+abbrev pub watches : List (List Watch) → ℕ → List Watch
+watches lists l = slice_index_or lists l []
+
+abbrev pub numbers_of : List Watch → List ℕ
+numbers_of ws = map (λ w. w.number) ws
+
+abbrev pub listed : List (List Watch) → ℕ → List ℕ
+listed lists l = numbers_of (watches lists l)
+
+-- each is one of the old ones
+pub record AreOf (old new : List Watch) : Type 0 where
+  pub each : (j : ℕ) (w : Watch) → slice_get new j ≡ Some w → (k : ℕ) × (slice_get old k ≡ Some w)
+
+-- one was taken out at this place, and the last put there
+pub record IsTakenAt (old new : List Watch) (i : ℕ) : Type 0 where
+  pub numbers : numbers_of new ≡ swap_remove (numbers_of old) i 0
+  pub are_of : AreOf old new
 
 -- all lists are as long as they were, and have the same numbers
-pub record SameLists (old new : List (List ℕ)) : Type 0 where
-  pub at_each : (l : ℕ) → listed new l ≡ listed old l
+pub record SameLists (old new : List (List Watch)) : Type 0 where
+  pub at_each : (l : ℕ) → watches new l ≡ watches old l
 
 -- all lists have the numbers that they had, and perhaps more
-pub record MoreLists (old new : List (List ℕ)) : Type 0 where
+pub record MoreLists (old new : List (List Watch)) (a b : Watch) : Type 0 where
   pub kept : (l k : ℕ) → has k (listed old l) ≡ true → has k (listed new l) ≡ true
   pub long : length new ≡ length old
+  pub each : (l j : ℕ) (w : Watch) → slice_get (watches new l) j ≡ Some w → ((k : ℕ) × (slice_get (watches old l) k ≡ Some w)) ⊎ ((w ≡ a) ⊎ (w ≡ b))
+
+-- a watch was taken out of one list
+pub record IsTaken (old new : List (List Watch)) (from i : ℕ) : Type 0 where
+  pub there : IsTakenAt (watches old from) (watches new from) i
+  pub others : (l : ℕ) → (l ≡ from → ⊥) → watches new l ≡ watches old l
 
 -- the number was taken out at this place of one list, and put into another one
-pub record IsShifted (old new : List (List ℕ)) (from i number to : ℕ) : Type 0 where
+pub record IsShifted (old new : List (List Watch)) (from i number to : ℕ) (new_watch : Watch) : Type 0 where
+  pub each : (l j : ℕ) (w : Watch) → slice_get (watches new l) j ≡ Some w → ((k : ℕ) × (slice_get (watches old l) k ≡ Some w)) ⊎ (w ≡ new_watch)
   pub kept : (l k : ℕ) → has k (listed old l) ≡ true → (k ≡ number → ⊥) → has k (listed new l) ≡ true
   pub others : (l : ℕ) → (l ≡ from → ⊥) → has number (listed old l) ≡ true → has number (listed new l) ≡ true
   pub got : has number (listed new to) ≡ true
@@ -39,10 +62,15 @@ pub record IsShifted (old new : List (List ℕ)) (from i number to : ℕ) : Type
 
 -- the same with the new watched literals of that clause
 pub record IsRewatched (old new : WatchState) (from i number to : ℕ) (pair : Pair) : Type 0 where
-  pub shifted : IsShifted old.lists new.lists from i number to
+  pub shifted : IsShifted old.lists new.lists from i number to (record { number = number; blocker = pair.second })
   pub pairs : new.pairs ≡ slice_set old.pairs number pair
   pub shorts : new.shorts ≡ old.shorts
   pub head : new.head ≡ old.head
+
+-- all lists have the numbers that they had; one watch may have become this one
+pub record IsReblocked (old new : List (List Watch)) (v : Watch) : Type 0 where
+  pub numbers : (l : ℕ) → listed new l ≡ listed old l
+  pub each : (l j : ℕ) (w : Watch) → slice_get (watches new l) j ≡ Some w → (slice_get (watches old l) j ≡ Some w) ⊎ (w ≡ v)
 
 -- no entry, or an assumed one, stands behind so many entries
 pub record IsCut (es : List Entry) (n : ℕ) : Type 0 where
@@ -63,7 +91,7 @@ pub record BothSeen (es : List Entry) (head : ℕ) (c : List ℕ) (p : Pair) : T
   pub second : IsSeen es head c p.second
 
 -- two literals of the clause are watched, and it stands in the list of each
-pub record IsPaired (lists : List (List ℕ)) (k : ℕ) (c : List ℕ) (p : Pair) : Type 0 where
+pub record IsPaired (lists : List (List Watch)) (k : ℕ) (c : List ℕ) (p : Pair) : Type 0 where
   pub first_in : has p.first c ≡ true
   pub second_in : has p.second c ≡ true
   pub apart : p.first ≡ p.second → ⊥
@@ -81,11 +109,17 @@ pub record AreWatched (clauses : List (List ℕ)) (w : WatchState) : Type 0 wher
 pub record AreSeen (clauses : List (List ℕ)) (w : WatchState) (es : List Entry) (head : ℕ) : Type 0 where
   pub each : (k : ℕ) (c : List ℕ) (p : Pair) → slice_get clauses k ≡ Some c → has k w.shorts ≡ false → slice_get w.pairs k ≡ Some p → BothSeen es head c p
 
+-- each watch is of a clause that has its other literal
+pub record AreBlocked (clauses : List (List ℕ)) (lists : List (List Watch)) : Type 0 where
+  pub below : (l j : ℕ) (w : Watch) → slice_get (watches lists l) j ≡ Some w → w.number < length clauses
+  pub in_it : (l j : ℕ) (w : Watch) (c : List ℕ) → slice_get (watches lists l) j ≡ Some w → slice_get clauses w.number ≡ Some c → has w.blocker c ≡ true
+
 -- what the watches keep beside clauses and entries
 pub record IsWatching (clauses : List (List ℕ)) (es : List Entry) (w : WatchState) : Type 0 where
   pub watched : AreWatched clauses w
   pub seen : AreSeen clauses w es w.head
   pub within : w.head ≤ length es
+  pub blocked : AreBlocked clauses w.lists
 
 -- what the true literals keep beside clauses
 pub record IsHeld (clauses : List (List ℕ)) (a : AssignedState) : Type 0 where

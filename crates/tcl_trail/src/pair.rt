@@ -19,6 +19,14 @@ pub(crate) struct Free {
     pub(crate) place: u32,
 }
 
+/// The number of a clause that watches a literal, and another literal of it: where that one is true, the clause need not be
+/// looked at.
+#[derive(Clone, Copy)]
+pub(crate) struct Watch {
+    pub(crate) number: u32,
+    pub(crate) blocker: Lit,
+}
+
 /// Two literals that a clause may watch, and how many entries it may count as seen.
 #[derive(Clone, Copy)]
 pub(crate) struct Chosen {

@@ -104,7 +104,11 @@ fn visit_at(
     ensures visits { Visits clauses.now assigned.old assigned.new watching.old watching.new }
     ensures visit { IsVisit clauses.now assigned.new watching.old watching.new lit i result }
 {
-    let number = watching.number_at(lit, i);
+    let seen = watching.watch_at(lit, i);
+    if assigned.is_true(seen.blocker) {
+        return Visit::Kept;
+    }
+    let number = seen.number;
     let k = number as usize;
     if k >= clauses.len() {
         return Visit::Kept;
@@ -117,6 +121,7 @@ fn visit_at(
         return Visit::Kept;
     };
     if assigned.is_true(other) {
+        watching.reblock(lit, i, number, other);
         return Visit::Kept;
     }
     let clause = &clauses[k];
@@ -143,6 +148,32 @@ fn visit_at(
     }
 }
 
+/// The first place of the literal's list from this one on where the blocker is not true, or the end of the list. A clause
+/// whose blocker is true is not looked at.
+fn skip_blocked(
+    _clauses: &[Clause],
+    assigned: &Assigned,
+    watching: &Watching,
+    lit: Lit,
+    from: usize,
+) -> usize
+    requires watching { IsWatching _clauses.now assigned.now.entries watching.now }
+    requires next { IsNext assigned.now.entries watching.now.head lit }
+    requires visited { AreVisited _clauses.now watching.now assigned.now.entries lit from }
+    ensures visited { AreVisited _clauses.now watching.now assigned.now.entries lit result }
+    ensures onward { from ≤ result }
+{
+    let mut i = from;
+    'blocked: while i < watching.count(lit) {
+        let watch = watching.watch_at(lit, i);
+        if !assigned.is_true(watch.blocker) {
+            return i;
+        }
+        i += 1;
+    }
+    i
+}
+
 /// Visits all clauses that watch the literal.
 fn visit_all(
     clauses: &[Clause],
@@ -159,7 +190,7 @@ fn visit_all(
     let mut i = 0;
     'visits: while i < watching.count(lit) {
         match visit_at(clauses, assigned, watching, lit, i) {
-            Visit::Kept => i += 1,
+            Visit::Kept => i = skip_blocked(clauses, assigned, watching, lit, i + 1),
             Visit::Moved => {}
             Visit::Conflict(number) => return Drain::Conflict(number),
             Visit::Stuck => return Drain::Stuck,

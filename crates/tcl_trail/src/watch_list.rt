@@ -1,21 +1,24 @@
-// The numbers of the clauses that watch one literal.
+// The clauses that watch one literal.
 
-ghost use Rattle.std.specs.Prelude.{◌≡◌, ℕ, ◌<◌, if◌then◌else◌, OnOk, OnErr, Some, length, slice_get, swap_remove, List, [], ◌∷◌, ◌++◌};
+ghost use Rattle.tcl_trail.specs.Watching.{IsTakenAt};
+ghost use Rattle.std.specs.Prelude.{◌≡◌, ℕ, ◌<◌, if◌then◌else◌, OnOk, OnErr, Some, length, slice_get, slice_set, take, ◌-◌, List, [], ◌∷◌, ◌++◌};
 
+use crate::pair::Watch;
 use std::alloc::{AllocError, Global};
 use std::marker::Model;
 
 #[derive(Drop)]
 pub(crate) struct WatchList {
-    numbers: Vec<u32>,
+    watches: Vec<Watch>,
 }
 
 impl Model for WatchList {
-    ghost use Rattle.std.specs.Prelude.{List, ℕ};
+    ghost use Rattle.std.specs.Prelude.{List};
+    ghost use Rattle.tcl_trail.specs.declared.pair.Watch.{Watch};
 
-    ghost Value = { List ℕ };
+    ghost Value = { List Watch };
 
-    ghost view = { λ w. w.numbers.items };
+    ghost view = { λ w. w.watches.items };
 }
 
 impl WatchList {
@@ -23,55 +26,72 @@ impl WatchList {
         ensures { result ≡ [] }
     {
         WatchList {
-            numbers: Vec::new(alloc),
+            watches: Vec::new(alloc),
         }
     }
 
     pub(crate) fn len(&self) -> usize
         ensures { result ≡ length self.now }
     {
-        self.numbers.len()
+        self.watches.len()
     }
 
-    pub(crate) fn at(&self, i: usize) -> u32
+    pub(crate) fn at(&self, i: usize) -> Watch
         requires { i < length self.now }
         ensures { slice_get self.now i ≡ Some result }
     {
-        self.numbers[i]
+        self.watches[i]
     }
 
     /// Makes room for so many more.
     pub(crate) fn reserve(&mut self, additional: usize) -> Result<(), AllocError>
         ensures { self.new ≡ self.old }
     {
-        self.numbers.reserve(additional)
+        self.watches.reserve(additional)
     }
 
-    pub(crate) fn push(&mut self, number: u32) -> Result<(), AllocError>
-        ensures ok { OnOk result (self.new ≡ self.old ++ number ∷ []) }
+    pub(crate) fn push(&mut self, watch: Watch) -> Result<(), AllocError>
+        ensures ok { OnOk result (self.new ≡ self.old ++ watch ∷ []) }
         ensures err { OnErr result (self.new ≡ self.old) }
     {
-        self.numbers.push(number)?;
+        self.watches.push(watch)?;
         Ok(())
     }
 
-    /// Puts the number in, if there is room.
-    pub(crate) fn push_within(&mut self, number: u32) -> bool
-        ensures { self.new ≡ (if result then self.old ++ number ∷ [] else self.old) }
+    /// Puts the watch in, if there is room.
+    pub(crate) fn push_within(&mut self, watch: Watch) -> bool
+        ensures { self.new ≡ (if result then self.old ++ watch ∷ [] else self.old) }
     {
-        if self.numbers.len() < self.numbers.capacity() {
-            self.numbers.push_reserved(number);
+        if self.watches.len() < self.watches.capacity() {
+            self.watches.push_reserved(watch);
             true
         } else {
             false
         }
     }
 
-    /// Takes the number at this place out, and puts the last one there.
+    /// Replaces the watch at this place.
+    pub(crate) fn put(&mut self, i: usize, watch: Watch)
+        requires { i < length self.old }
+        ensures { self.new ≡ slice_set self.old i watch }
+    {
+        self.watches[i] = watch;
+    }
+
+    /// Takes the watch at this place out, and puts the last one there.
     pub(crate) fn take_at(&mut self, i: usize)
         requires { i < length self.old }
-        ensures { self.new ≡ swap_remove self.old i 0 }
+        ensures { IsTakenAt self.old self.new i }
     {
-        self.numbers.swap_remove(i);
+        self.watches.swap_remove(i);
+    }
+
+    /// Takes the last one out.
+    pub(crate) fn forget_last(&mut self)
+        requires { 0 < length self.old }
+        ensures { self.new ≡ take (length self.old - 1) self.old }
+    {
+        let last = self.watches.len() - 1;
+        self.watches.truncate(last);
     }
 }

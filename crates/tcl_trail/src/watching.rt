@@ -1,10 +1,10 @@
 // The watches: each clause of two literals and more watches two of them, and is looked at only where one becomes false.
 
-ghost use Rattle.std.specs.Prelude.{◌≡◌, ℕ, ◌+◌, ◌<◌, ◌≤◌, ◌^◌, OnOk, OnErr, IfSome, MatchBool, if◌then◌else◌, true, Option, Some, None, length, slice_get, slice_set, swap_remove, List, [], ◌∷◌, ◌++◌};
+ghost use Rattle.std.specs.Prelude.{◌≡◌, ℕ, ◌+◌, ◌<◌, ◌≤◌, ◌^◌, OnOk, OnErr, IfSome, MatchBool, if◌then◌else◌, true, Option, Some, None, length, slice_get, slice_set, take, ◌-◌, List, [], ◌∷◌, ◌++◌};
 ghost use Rattle.tcl_cnf.specs.Clause.{has};
-ghost use Rattle.tcl_trail.specs.Watching.{WatchState, listed, SameLists, MoreLists, IsShifted, IsRewatched};
+ghost use Rattle.tcl_trail.specs.Watching.{WatchState, listed, watches, numbers_of, SameLists, MoreLists, IsTakenAt, IsTaken, IsShifted, IsRewatched, IsReblocked};
 
-use crate::pair::Pair;
+use crate::pair::{Pair, Watch};
 use crate::watch_list::WatchList;
 use std::alloc::{AllocError, Global};
 use std::marker::Model;
@@ -63,10 +63,10 @@ impl Watching {
         }
     }
 
-    /// The number of one of them.
-    pub(crate) fn number_at(&self, lit: Lit, i: usize) -> u32
+    /// One of them.
+    pub(crate) fn watch_at(&self, lit: Lit, i: usize) -> Watch
         requires { i < length (listed self.now.lists lit) }
-        ensures { slice_get (listed self.now.lists lit) i ≡ Some result }
+        ensures { slice_get (watches self.now.lists lit) i ≡ Some result }
     {
         let l = lit.number() as usize;
         if l < self.lists.len() {
@@ -99,7 +99,10 @@ impl Watching {
             &mut self.lists,
             from.number() as usize,
             i,
-            number,
+            Watch {
+                number,
+                blocker: pair.second,
+            },
             to.number() as usize,
         ) {
             self.pairs[number as usize] = pair;
@@ -109,19 +112,35 @@ impl Watching {
         }
     }
 
-    /// Lets the next clause, of this number, watch these literals. An error may leave its number in a list.
+    /// Gives the watch at this place of the literal's list another blocker.
+    pub(crate) fn reblock(&mut self, lit: Lit, i: usize, number: u32, blocker: Lit)
+        requires { slice_get (listed self.old.lists lit) i ≡ Some number }
+        ensures reblocked { IsReblocked self.old.lists self.new.lists (record { number = number; blocker = blocker }) }
+        ensures same { self.new ≡ record self.old { lists = self.new.lists } }
+    {
+        set_watch(
+            &mut self.lists,
+            lit.number() as usize,
+            i,
+            Watch { number, blocker },
+        );
+    }
+
+    /// Lets the next clause, of this number, watch these literals.
     pub(crate) fn add_pair(&mut self, number: u32, pair: Pair) -> Result<(), AllocError>
         requires first { pair.first < length self.old.lists }
         requires second { pair.second < length self.old.lists }
-        ensures more { MoreLists self.old.lists self.new.lists }
+        ensures more { OnOk result (MoreLists self.old.lists self.new.lists (record { number = number; blocker = pair.second }) (record { number = number; blocker = pair.first })) }
         ensures first { OnOk result (has number (listed self.new.lists pair.first) ≡ true) }
         ensures second { OnOk result (has number (listed self.new.lists pair.second) ≡ true) }
         ensures ok { OnOk result (self.new ≡ record self.old { lists = self.new.lists; pairs = self.old.pairs ++ pair ∷ [] }) }
-        ensures err { OnErr result (self.new ≡ record self.old { lists = self.new.lists }) }
+        ensures err { OnErr result (self.new ≡ self.old) }
     {
-        enlist(&mut self.lists, pair.first.number() as usize, number)?;
-        enlist(&mut self.lists, pair.second.number() as usize, number)?;
-        self.pairs.push(pair)?;
+        self.pairs.reserve(1)?;
+        let first = pair.first;
+        let second = pair.second;
+        enlist_both(&mut self.lists, number, first, second)?;
+        self.pairs.push_reserved(pair);
         Ok(())
     }
 
@@ -201,46 +220,107 @@ fn widen_counts(counts: &mut Vec<usize>, len: usize) -> Result<(), AllocError> {
 }
 
 /// Takes the number at this place of the one list out, and puts it into the other, where there is room.
-fn shift(lists: &mut Vec<WatchList>, from: usize, i: usize, number: u32, to: usize) -> bool
-    requires there { slice_get (listed lists.old.items from) i ≡ Some number }
+fn shift(lists: &mut Vec<WatchList>, from: usize, i: usize, watch: Watch, to: usize) -> bool
+    requires there { slice_get (listed lists.old.items from) i ≡ Some watch.number }
     requires apart { from ≡ to → ⊥ }
-    ensures { MatchBool result (IsShifted lists.old.items lists.new.items from i number to) (lists.new.items ≡ lists.old.items) }
+    ensures { MatchBool result (IsShifted lists.old.items lists.new.items from i watch.number to watch) (lists.new.items ≡ lists.old.items) }
 {
     if to >= lists.len() || from >= lists.len() {
         return false;
     }
-    if !put_in(lists, to, number) {
+    if !put_in(lists, to, watch) {
         return false;
     }
     take_out(lists, from, i);
     true
 }
 
-fn put_in(lists: &mut Vec<WatchList>, to: usize, number: u32) -> bool
+fn put_in(lists: &mut Vec<WatchList>, to: usize, watch: Watch) -> bool
     requires { to < length lists.old.items }
-    ensures { lists.new.items ≡ (if result then slice_set lists.old.items to (listed lists.old.items to ++ number ∷ []) else lists.old.items) }
+    ensures { lists.new.items ≡ (if result then slice_set lists.old.items to (watches lists.old.items to ++ watch ∷ []) else lists.old.items) }
 {
     let list = &mut lists[to];
-    list.push_within(number)
+    list.push_within(watch)
 }
 
 fn take_out(lists: &mut Vec<WatchList>, from: usize, i: usize)
     requires there { from < length lists.old.items }
     requires within { i < length (listed lists.old.items from) }
-    ensures { lists.new.items ≡ slice_set lists.old.items from (swap_remove (listed lists.old.items from) i 0) }
+    ensures { IsTaken lists.old.items lists.new.items from i }
 {
     let list = &mut lists[from];
     list.take_at(i);
 }
 
-/// Puts the number into the list.
-fn enlist(lists: &mut Vec<WatchList>, to: usize, number: u32) -> Result<(), AllocError>
+/// Replaces the watch at this place of a list by another one of the same clause.
+fn set_watch(lists: &mut Vec<WatchList>, l: usize, i: usize, watch: Watch)
+    requires { slice_get (listed lists.old.items l) i ≡ Some watch.number }
+    ensures { IsReblocked lists.old.items lists.new.items watch }
+{
+    if l < lists.len() {
+        let list = &mut lists[l];
+        list.put(i, watch);
+    }
+}
+
+/// Puts the clause's number into the lists of both literals.
+fn enlist_both(
+    lists: &mut Vec<WatchList>,
+    number: u32,
+    first: Lit,
+    second: Lit,
+) -> Result<(), AllocError>
+    requires first { first < length lists.old.items }
+    requires second { second < length lists.old.items }
+    ensures more { OnOk result (MoreLists lists.old.items lists.new.items (record { number = number; blocker = second }) (record { number = number; blocker = first })) }
+    ensures first { OnOk result (has number (listed lists.new.items first) ≡ true) }
+    ensures second { OnOk result (has number (listed lists.new.items second) ≡ true) }
+    ensures err { OnErr result (lists.new.items ≡ lists.old.items) }
+{
+    let at_first = first.number() as usize;
+    let at_second = second.number() as usize;
+    enlist(
+        lists,
+        at_first,
+        Watch {
+            number,
+            blocker: second,
+        },
+    )?;
+    match enlist(
+        lists,
+        at_second,
+        Watch {
+            number,
+            blocker: first,
+        },
+    ) {
+        Ok(()) => Ok(()),
+        Err(error) => {
+            unlist(lists, at_first);
+            Err(error)
+        }
+    }
+}
+
+/// Puts the watch into the list.
+fn enlist(lists: &mut Vec<WatchList>, to: usize, watch: Watch) -> Result<(), AllocError>
     requires { to < length lists.old.items }
-    ensures more { MoreLists lists.old.items lists.new.items }
-    ensures there { OnOk result (has number (listed lists.new.items to) ≡ true) }
+    ensures ok { OnOk result (lists.new.items ≡ slice_set lists.old.items to (watches lists.old.items to ++ watch ∷ [])) }
+    ensures err { OnErr result (lists.new.items ≡ lists.old.items) }
 {
     let list = &mut lists[to];
-    list.push(number)
+    list.push(watch)
+}
+
+/// Takes the last watch out of the list.
+fn unlist(lists: &mut Vec<WatchList>, to: usize)
+    requires there { to < length lists.old.items }
+    requires some { 0 < length (watches lists.old.items to) }
+    ensures { lists.new.items ≡ slice_set lists.old.items to (take (length (watches lists.old.items to) - 1) (watches lists.old.items to)) }
+{
+    let list = &mut lists[to];
+    list.forget_last();
 }
 
 /// Counts these literals, and makes room in the lists for as many.

@@ -14,4 +14,4 @@ returns-in-Ok-clause-ok c =
 
 pub returns-in-Err-clause-err : goal.returns-in-Err-clause-err
 returns-in-Err-clause-err c =
-    added_err c.args._clauses.now c.args.assigned.now.entries c.args.watching.now c.lower.new.self c.add_pair.new.self c.requires.watching c.lower.ensures.same c.lower.ensures.lower c.in-Err.ensures.more c.in-Err.ensures.err
+    added_err c.args._clauses.now c.args.assigned.now.entries c.args.watching.now c.lower.new.self c.add_pair.new.self c.requires.watching c.lower.ensures.same c.lower.ensures.lower c.in-Err.ensures.err
