@@ -2,5 +2,5 @@ mod Naming
 mod Reading
 mod TermNames
 mod FactNames
-mod Proving
+pub mod Proving
 mod Holding
