@@ -11,14 +11,17 @@ use crate::analysis;
 use crate::derivation::Derivation;
 use crate::minimization::Minimizer;
 use crate::order::Order;
+use crate::restart::Restarts;
 use std::alloc::{AllocError, Global};
 use tcl_cnf::{Lit, Log, LogFault};
 use tcl_trail::Trail;
 
-/// What learning keeps besides the log and the trail: the order of decisions, and tables that serve all conflicts.
+/// What learning keeps besides the log and the trail: the order of decisions, the lengths of learnt clauses that tell when to
+/// start again, and tables that serve all conflicts.
 #[derive(Drop)]
 pub(crate) struct Learner {
     pub(crate) order: Order,
+    pub(crate) restarts: Restarts,
     derivation: Derivation,
     minimizer: Minimizer,
 }
@@ -27,6 +30,7 @@ impl Learner {
     pub(crate) fn new(alloc: Global, variables: u32) -> Result<Learner, AllocError> {
         Ok(Learner {
             order: Order::new(alloc, variables)?,
+            restarts: Restarts::new(),
             derivation: Derivation::new(alloc),
             minimizer: Minimizer::new(alloc),
         })
@@ -115,6 +119,7 @@ fn learn_above(
     let point = derive_above(log, trail, learner, number, floor)?;
     let learnt = log_derived(log, &learner.derivation)?;
     let clause = log.clause(learnt);
+    learner.restarts.take_in(clause.len());
     let level = analysis::jump_level(trail, clause.lits(), point);
     release_above(trail, &mut learner.order, level)?;
     trail.back_to(level);

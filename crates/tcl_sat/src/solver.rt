@@ -9,7 +9,6 @@ ghost use Rattle.tcl_sat.specs.State.{IsState, IsBegun, IsTurn, IsRunEnd, IsRunS
 use crate::descent::{self, Descent};
 use crate::found::Found;
 use crate::learning::{self, Learner};
-use crate::restart::Restarts;
 use crate::values;
 use std::alloc::{AllocError, Global};
 use tcl_cnf::{Cnf, Log};
@@ -42,7 +41,6 @@ struct Solver {
     log: Log,
     trail: Trail,
     learner: Learner,
-    restarts: Restarts,
 }
 
 /// Searches for values that make every clause true, or for a derivation of the empty clause.
@@ -95,7 +93,6 @@ impl Solver {
             log,
             trail,
             learner,
-            restarts: Restarts::new(),
         })
     }
 
@@ -107,7 +104,6 @@ impl Solver {
             log,
             trail: _,
             learner: _,
-            restarts: _,
         } = self;
         log
     }
@@ -162,7 +158,7 @@ impl Solver {
         ensures log { OnOk result (self.new.log ≡ self.old.log) }
         ensures state { OnOk result (IsState self.new.log self.new.trail) }
     {
-        if self.restarts.is_due() {
+        if self.learner.restarts.is_due() {
             learning::release_above(&self.trail, &mut self.learner.order, 0)?;
             self.trail.back_to(0);
         }
