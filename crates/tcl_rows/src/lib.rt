@@ -4,6 +4,12 @@
 #[cfg(test)]
 mod canonical;
 #[cfg(test)]
+mod example_limbs;
+#[cfg(test)]
+mod example_reductions;
+#[cfg(test)]
+mod examples;
+#[cfg(test)]
 mod ranges;
 #[cfg(test)]
 mod settled;

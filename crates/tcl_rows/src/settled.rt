@@ -41,7 +41,7 @@ fn goals_whose_clauses_are_searched(rt: HostRuntime) -> Result<(), AllocError> {
         (
             "in u32 x\npre alg x*x = 4\nassert rng x = 2@u32\nend\n",
             2,
-            "goal 0 line 3 assert unproved later\nunproved\n",
+            "goal 0 line 3 assert unproved stray 2\nin x 0\nunproved\n",
         ),
         (
             "in u32 x\nin u32 y\npre alg x = 3\npre alg y = 5 mod 2**32\nassert rng x + y = 8@u32\nend\n",
@@ -117,7 +117,7 @@ fn goals_whose_claims_are_reduced(rt: HostRuntime) -> Result<(), AllocError> {
         (
             "in u64 a0\nin u64 a1\nin u64 b0\nin u64 b1\nadds u64 c0 r0 a0 b0\nadcs u64 c1 r1 a1 b1 c0\npost alg r0 + 2**64*r1 + 2**128*c1 = a0 + 2**64*a1 + b0 + 2**64*b1\nend\n",
             2,
-            "goal 0 line 7 post unproved later\nunproved\n",
+            "goal 0 line 7 post unproved width claim\nunproved\n",
         ),
         (
             "in u64 x\nand u64 y x x\npost alg y = x\nend\n",
@@ -127,7 +127,7 @@ fn goals_whose_claims_are_reduced(rt: HostRuntime) -> Result<(), AllocError> {
         (
             "in u32 x\nassert alg x**1024*x = x*x**1024\nend\n",
             2,
-            "goal 0 line 2 assert unproved later\nunproved\n",
+            "goal 0 line 2 assert unproved size degree 1025\nunproved\n",
         ),
         (
             "in u32 x\nin u32 y\nmull u32 h l x y\nassert alg 2**32*h + l = x*y\nassert alg h = x*y mod 3\nend\n",

@@ -35,8 +35,9 @@ use Rattle.tcl_enum.specs.Enumeration.{is_denied, ended_of}
 use Rattle.tcl_kernel.specs.Counterexample.{BreakChecks}
 use Rattle.tcl_kernel.proofs.GoalsFound.{goal_found}
 use Rattle.tcl_top.specs.Left.{input_of, IsFirstInput}
-use Rattle.tcl_top.proofs.WholeFacts.{whole_in_order}
-use Rattle.tcl_top.proofs.Settling.{ended_fails}
+use Rattle.tcl_goals.specs.declared.piece.Route.TheVariants as route
+use Rattle.tcl_top.proofs.RouteFacts.{route_in_order}
+use Rattle.tcl_top.proofs.Walks.{ended_fails}
 use Rattle.tcl_top.proofs.FirstInputs.{same_input, numbered_assigns, first_denies, fails_first}
 
 -- what holds of all holds of one
@@ -172,7 +173,7 @@ found_checks p i free w goal fails =
     let fact = whole_fact p i in
     let first = fails_first p fact free fails in
     let values = assignment p [] fact first.0 in
-    let has = numbered_assigns p fact first.0 w (whole_in_order p i w goal) in
+    let has = numbered_assigns p fact first.0 w (route_in_order p i route.Whole goal) in
     let same = same_input p fact free first.0 w first.2 in (
       subst (λ input. BreakChecks p i input) (sym same)
           (break_checks p i values w goal has (denies p i values goal has.typed (first_denies p fact first.0 first.1) (ended_fails p fact free fails))),

@@ -8,7 +8,7 @@ use Rattle.tcl_cnf.specs.Propagation.{ConflictsAtOnce, IsFresh}
 use Rattle.tcl_cnf.specs.FreshLogs.{DeriveFresh}
 use Rattle.tcl_cnf.proofs.Freshness.{met_no_conflict, no_conflict}
 use Rattle.tcl_cnf.proofs.LogLemmas.{derived_behind}
-use Rattle.tcl_top.specs.Searched.{search_budget}
+use Rattle.tcl_top.specs.Left.{search_budget}
 
 pub solution_no_conflict : (clauses : List (List ℕ)) (v : ℕ → Bool) → Satisfies v clauses → ConflictsAtOnce clauses → ⊥
 solution_no_conflict clauses v met conflict = met_no_conflict clauses v met conflict

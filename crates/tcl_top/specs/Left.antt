@@ -1,28 +1,28 @@
--- Goals that are left: neither the intervals nor a walk through the assignments of its whole fact settle such a goal.
-use Rattle.std.specs.Prelude.{◌≡◌, ℕ, ℤ, pos, nat_eq, nat_le, Bool, not, ◌&&◌, ◌||◌, if◌then◌else◌, List, [], ◌∷◌, length, map, Option, None, Some}
+-- The whole piece of a goal, the walk through its assignments, and the inputs of these.
+use Rattle.std.specs.Prelude.{◌≡◌, ◌+◌, ℕ, ℤ, pos, nat_eq, Bool, if◌then◌else◌, List, [], ◌∷◌, map, Option, None, Some}
 use Rattle.tcl_lang.specs.declared.pred.Line.{Line}
 use Rattle.tcl_lang.specs.Program.{VersionedProgram}
+use Rattle.tcl_goals.specs.declared.piece.Piece.{Piece}
+use Rattle.tcl_goals.specs.declared.piece.Route.TheVariants as route
 use Rattle.tcl_goals.specs.Slices.{whole_fact}
-use Rattle.tcl_goals.specs.Free.{free_bits}
 use Rattle.tcl_slice.specs.Runs.{taken_names, input_from}
 use Rattle.tcl_enum.specs.declared.ended.FreeValue.{FreeValue}
-use Rattle.tcl_enum.specs.NarrowFact.{is_narrow_fact}
 use Rattle.tcl_enum.specs.Patterns.{assignment}
 use Rattle.tcl_enum.specs.Enumeration.{first_denial}
-use Rattle.tcl_kernel.specs.BoundsCertificate.{is_bounded}
+use Rattle.tcl_kernel.specs.Causes.{is_walked_by}
 
--- the goal is no algebraic one, and follows from the intervals of its fact
-abbrev pub is_settled_by_bounds : VersionedProgram → ℕ → Bool
-is_settled_by_bounds f i = is_bounded f (whole_fact f i)
+-- as many clauses as a search may derive
+abbrev pub search_budget : ℕ
+search_budget = 131072
 
--- The fact has at most 17 free bits, so that it has at most 2 ^ 17 = 131,072 assignments, and no equation of it has a size
--- bound from 2 ^ 126 on or a wide modulus: all assignments are walked.
+-- the piece of the whole route of goal i, where each route of each goal has one piece
+abbrev pub whole_piece : ℕ → Piece
+whole_piece i = record { number = i + i + 1; goal = i; route = route.Whole; cube = [] }
+
+-- all assignments of the whole fact are walked: it has at most 17 free bits, so that it has at most 2 ^ 17 = 131,072
+-- assignments, and no equation of it has a size bound from 2 ^ 126 on or a wide modulus
 abbrev pub is_walked : VersionedProgram → ℕ → Bool
-is_walked f i = nat_le (length (free_bits f [] (whole_fact f i))) 17 && is_narrow_fact f (whole_fact f i)
-
--- neither holds
-unfoldable pub is_left : VersionedProgram → ℕ → Bool
-is_left f i = not (is_settled_by_bounds f i || is_walked f i)
+is_walked f i = is_walked_by f search_budget (whole_fact f i)
 
 -- The input is that of the first assignment that denies the goal: the free variables of the fact have their values in it,
 -- counted up with the first as the most significant, each by its bit pattern as an unsigned number. An `in` name that the

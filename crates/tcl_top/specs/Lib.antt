@@ -4,5 +4,7 @@ pub mod Reduced
 pub mod Trials
 pub mod Searched
 pub mod Answers
+pub mod Worked
+pub mod Recording
 pub mod Report
 pub mod Headline

@@ -1,14 +1,10 @@
--- Algebraic goals whose claim is reduced by what the instructions before it define.
-use Rattle.std.specs.Prelude.{ℕ, Bool, true, false, Option, Some, None}
-use Rattle.tcl_lang.specs.declared.term.AlgPred.{AlgPred}
+-- Facts whose claim is reduced to nothing by what the instructions before it define.
+use Rattle.std.specs.Prelude.{Bool, true, false, Option, Some, None}
 use Rattle.tcl_lang.specs.Program.{VersionedProgram}
 use Rattle.tcl_goals.specs.declared.fact.Fact.{Fact}
-use Rattle.tcl_goals.specs.Slices.{whole_fact}
-use Rattle.tcl_algebra.specs.Equations.{claim_begins}
-use Rattle.tcl_algebra.specs.Ends.{claim_equation}
 use Rattle.tcl_plain.specs.declared.outcome.Outcome.{Outcome}
 use Rattle.tcl_plain.specs.declared.outcome.Outcome.TheVariants.{Zero, Rest, Wide, Large}
-use Rattle.tcl_plain.specs.Plain.{plain_end, outcome_of}
+use Rattle.tcl_kernel.specs.PlainOutcome.{plain_outcome}
 
 -- nothing is left
 abbrev pub is_zero : Outcome → Bool
@@ -17,10 +13,10 @@ is_zero (Rest rest) = false
 is_zero (Wide at) = false
 is_zero (Large what n) = false
 
-abbrev pub is_zero_of : VersionedProgram → Fact → Option AlgPred → Bool
-is_zero_of p fact None = false
-is_zero_of p fact (Some f) = is_zero (outcome_of (claim_begins f) (plain_end p fact f))
+abbrev pub is_zero_in : Option Outcome → Bool
+is_zero_in None = false
+is_zero_in (Some o) = is_zero o
 
--- the plain reduction of the claim of the goal's whole fact leaves nothing
-unfoldable pub is_reduced : VersionedProgram → ℕ → Bool
-is_reduced p i = is_zero_of p (whole_fact p i) (claim_equation p (whole_fact p i).claim)
+-- the claim is an equation, and its plain reduction leaves nothing
+abbrev pub is_reduced : VersionedProgram → Fact → Bool
+is_reduced p fact = is_zero_in (plain_outcome p fact)

@@ -1,4 +1,5 @@
--- The text of a report: one line for each goal in order, after a refuted one the input, and the verdict as the last line.
+-- The text of a report: one line for each goal in order, after a refuted one and after a stray the input, and the verdict as
+-- the last line.
 use Rattle.std.specs.Prelude.{ℕ, ◌+◌, ℤ, pos, true, false, Bool, cond, codes, List, [], ◌∷◌, ◌++◌, slice_index, slice_index_or, slice_get, Option, Some, None, is_some}
 use Rattle.std.specs.Fmt.{decimal, signed_decimal}
 use Rattle.tcl_lang.specs.declared.pred.Line.{Line}
@@ -10,8 +11,14 @@ use Rattle.tcl_goals.specs.declared.goal.Goal.{Goal}
 use Rattle.tcl_goals.specs.declared.piece.Verdict.{Verdict}
 use Rattle.tcl_goals.specs.declared.piece.Verdict.TheVariants as verdict
 use Rattle.tcl_goals.specs.Places.{goals_of}
+use Rattle.tcl_goals.specs.declared.cause.Cause.{Cause}
+use Rattle.tcl_goals.specs.declared.cause.Cause.TheVariants as cause
+use Rattle.tcl_port.specs.declared.limit.At.{At}
+use Rattle.tcl_port.specs.declared.limit.At.TheVariants as at
+use Rattle.tcl_port.specs.declared.limit.What.{What}
+use Rattle.tcl_port.specs.declared.limit.What.TheVariants as what
 use Rattle.tcl_top.specs.declared.answer.Answer.{Answer}
-use Rattle.tcl_top.specs.declared.answer.Answer.TheVariants.{Proved, Refuted, Later}
+use Rattle.tcl_top.specs.declared.answer.Answer.TheVariants.{Proved, Refuted, Unproved}
 use Rattle.tcl_top.specs.Answers.{verdict_of}
 
 -- the word of a goal's kind
@@ -46,12 +53,34 @@ values_text names places input k j (l ∷ lines) =
 abbrev pub input_text : ReadProgram → List ℤ → List ℕ
 input_text p input = values_text p.program.names p.places input 0 0 p.program.lines
 
+-- where numbers became too great: the claim, or a line by its number in the text
+abbrev pub at_text : ReadProgram → At → List ℕ
+at_text p at.Claim = codes "claim"
+at_text p (at.Line k) = codes "line " ++ decimal (slice_index p.places k)
+
+-- the word of what passed its stated size, and the space behind it
+abbrev pub word_of_what : What → List ℕ
+word_of_what what.Clauses = codes "clauses "
+word_of_what what.Degree = codes "degree "
+word_of_what what.Terms = codes "terms "
+
+-- the text of a cause, and the lines of an input that belongs to it
+abbrev pub cause_text : ReadProgram → Cause → List ℕ
+cause_text p cause.Model = codes "model" ++ 10 ∷ []
+cause_text p (cause.Steps n) = codes "steps " ++ (decimal n ++ 10 ∷ [])
+cause_text p (cause.Width at) = codes "width " ++ (at_text p at ++ 10 ∷ [])
+cause_text p (cause.Size w n) = codes "size " ++ (word_of_what w ++ (decimal n ++ 10 ∷ []))
+cause_text p (cause.Rest rest _) = codes "open" ++ 10 ∷ []
+cause_text p (cause.Stray place truth input) =
+    codes "stray " ++ ((decimal (slice_index p.places place) ++ 10 ∷ []) ++ input_text p input)
+cause_text p cause.Later = codes "later" ++ 10 ∷ []
+
 -- what follows the kind on a goal's line, and the lines of the input
 abbrev pub answer_text : ReadProgram → Option Answer → List ℕ
 answer_text p None = []
 answer_text p (Some Proved) = codes "proved" ++ 10 ∷ []
 answer_text p (Some (Refuted input)) = codes "refuted" ++ (10 ∷ [] ++ input_text p input)
-answer_text p (Some Later) = codes "unproved later" ++ 10 ∷ []
+answer_text p (Some (Unproved c)) = codes "unproved " ++ cause_text p c
 
 -- the beginning of the line of a goal
 abbrev pub goal_head : ReadProgram → Goal → List ℕ

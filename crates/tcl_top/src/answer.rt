@@ -1,30 +1,21 @@
 //! The answer for one goal, and the verdict of all.
 
-ghost use Rattle.std.specs.Prelude.{◌≡◌, ◌↔◌, IsTrue};
+ghost use Rattle.std.specs.Prelude.{◌≡◌};
 ghost use Rattle.tcl_top.specs.Answers as answer_words;
 
-use tcl_goals::Verdict;
+use tcl_goals::{Cause, Verdict};
 use tcl_lang::Input;
 use tcl_list::Listing;
 
 /// What is reported of a goal.
+#[derive(Drop)]
 pub enum Answer {
     /// No input refutes it.
     Proved,
     /// The input refutes it.
     Refuted(Input),
-    /// Nothing that was tried settles it.
-    Later,
-}
-
-impl Drop for Answer {
-    fn drop(self) {
-        match self {
-            Answer::Proved => (),
-            Answer::Refuted(input) => drop(input),
-            Answer::Later => (),
-        }
-    }
+    /// Nothing that was tried settles it; the cause is that of its whole piece.
+    Unproved(Cause),
 }
 
 /// Whether some goal is refuted.
@@ -37,14 +28,14 @@ fn any_refuted(answers: &Listing<Answer>) -> bool
         .any(|answer| matches!(answer, Answer::Refuted(_)))
 }
 
-/// Whether some goal is left.
-fn any_later(answers: &Listing<Answer>) -> bool
-    ensures { result ≡ answer_words.any_later answers.now }
+/// Whether some goal is unproved.
+fn any_unproved(answers: &Listing<Answer>) -> bool
+    ensures { result ≡ answer_words.any_unproved answers.now }
 {
     answers
         .as_slice()
         .iter()
-        .any(|answer| matches!(answer, Answer::Later))
+        .any(|answer| matches!(answer, Answer::Unproved(_)))
 }
 
 /// The verdict: refuted where some goal is, else unproved where some goal is not proved, else verified.
@@ -53,7 +44,7 @@ pub(crate) fn verdict_of(answers: &Listing<Answer>) -> Verdict
 {
     if any_refuted(answers) {
         Verdict::Refuted
-    } else if any_later(answers) {
+    } else if any_unproved(answers) {
         Verdict::Unproved
     } else {
         Verdict::Verified

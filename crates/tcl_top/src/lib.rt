@@ -4,8 +4,10 @@
 mod answer;
 mod answering;
 mod attempt;
+mod causes;
 mod found;
 mod inputs;
+mod recording;
 mod reducing;
 mod refusal;
 mod report;
@@ -13,6 +15,8 @@ mod searching;
 mod solo;
 mod trying;
 mod unstopped;
+mod worked;
+mod working;
 
 pub use answer::Answer;
 pub use solo::{Done, solo_run};

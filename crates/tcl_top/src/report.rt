@@ -6,9 +6,10 @@ ghost use Rattle.tcl_goals.specs.Places.{goals_of};
 ghost use Rattle.tcl_top.specs.Report as report_words;
 
 use crate::answer::{Answer, verdict_of};
+use crate::causes::add_cause;
 use crate::inputs::{add_input, number_at};
 use std::alloc::{AllocError, Global};
-use tcl_goals::{Goal, Goals, Kind, Verdict};
+use tcl_goals::{Cause, Goal, Goals, Kind, Verdict};
 use tcl_lang::Typed;
 use tcl_list::Listing;
 use tcl_report::{Text, add, add_number};
@@ -50,8 +51,23 @@ fn add_answer(
         None => Ok(()),
         Some(Answer::Proved) => add(text, b"proved\n"),
         Some(Answer::Refuted(input)) => add_refuted(alloc, text, typed, input.as_slice()),
-        Some(Answer::Later) => add(text, b"unproved later\n"),
+        Some(Answer::Unproved(cause)) => add_unproved(alloc, text, typed, cause),
     }
+}
+
+/// Adds the words of an unproved goal.
+#[tactic(auto, using(crate::proofs::TextLemmas::joined))]
+fn add_unproved(
+    alloc: Global,
+    text: &mut Text,
+    typed: &Typed,
+    cause: &Cause,
+) -> Result<(), AllocError>
+    ensures ok { OnOk result (text.new.items ≡ text.old.items ++ (codes "unproved " ++ report_words.cause_text typed.now cause.now)) }
+{
+    add(text, b"unproved ")?;
+    add_cause(alloc, text, typed, cause)?;
+    Ok(())
 }
 
 /// Adds the word of a refuted goal and the input that refutes it.

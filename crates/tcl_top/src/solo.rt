@@ -146,10 +146,11 @@ fn nothing(status: u8) -> Done
 
 /// Reads a program to its end, works on each of its goals, and writes the report.
 ///
-/// Each goal is worked on with all that stands before it as hypotheses. It is proved by the intervals of the variables, or
-/// all assignments of its free bits are walked where these are at most 17 and no equation is too wide to be computed; the
-/// first assignment that denies it gives the input that refutes it. What was read has one row, whose text is made whole
-/// before the first write.
+/// Each goal is worked on by its slice after the last cut, and where this does not prove it with all that stands before it as
+/// hypotheses. It is proved by the intervals of the variables, or all assignments of its free bits are walked where these are
+/// at most 17 and no equation is too wide to be computed; else its clauses are searched, or the claim of an algebraic goal is
+/// reduced. An input that refutes a goal is that of the first assignment of the walk that denies it, that of a model of the
+/// clauses, or one of 256 that are tried. What was read has one row, whose text is made whole before the first write.
 pub fn solo_run<S: Source, K: Sink>(
     alloc: Global,
     words: &[String],

@@ -1,21 +1,14 @@
 -- The kernel takes the cofactors.
-use Rattle.std.proofs.Common.{◌≡◌, Bool, true, false, subst, []}
-use Rattle.tcl_goals.specs.declared.fact.Fact.{Fact}
-use Rattle.tcl_kernel.specs.Shown.{Stands}
-use Rattle.tcl_top.proofs.ZeroReductions.{cofactors_say}
-use Rattle.tcl_top.proofs.Settling.{proved_by_cofactors}
+use Rattle.std.proofs.Common.{◌∙◌}
+use Rattle.tcl_top.proofs.Checks.{cofactors_tell}
+use Rattle.tcl_top.proofs.Walks.{clash}
 use Rattle.tcl_top.proofs.reducing.proved_by_cofactors.Goals as goal
 
 pub returns-then-branch : goal.returns-then-branch
-returns-then-branch c =
-    proved_by_cofactors c.args.ssa.now c.args.goal c.requires.formed c.requires.goal
-    (subst (λ (f : Fact). Stands c.args.ssa.now [] f) c.requires.fact (c.in_ok-is_shown.ensures.stands c.if-branch.true)) c.requires.reduced
-
-clash : (b : Bool) → b ≡ true → b ≡ false → ⊥
-clash b s t = cc
+returns-then-branch c = c.in_ok-is_shown.ensures.stands c.if-branch.true
 
 pub returns-else-branch : goal.returns-else-branch
 returns-else-branch c =
     absurd (clash c.in_ok-is_shown.field-0
-    (cofactors_say c.args.ssa.now c.args.goal c.args.earlier.now c.args.fact.now c.args.lines c.in_ok-is_shown.field-0 c.requires.formed c.requires.goal c.requires.earlier c.requires.fact c.requires.checks c.in_ok-is_shown.ensures.checks)
+    (c.in_ok-is_shown.ensures.checks ∙ cofactors_tell c.args.ssa.now c.args.fact.now c.args.lines c.requires.formed c.requires.order c.requires.checks)
     c.if-branch.false)

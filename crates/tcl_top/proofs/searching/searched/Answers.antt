@@ -1,22 +1,33 @@
--- The clauses may be made, and what is left without a search.
-use Rattle.std.proofs.Common.{◌≡◌, ◌∙◌, List, false, ap, sym, subst}
-use Rattle.tcl_lang.specs.declared.pred.Line.{Line}
-use Rattle.tcl_goals.specs.declared.fact.Fact.{Fact}
-use Rattle.tcl_goals.specs.Plans.{is_algebraic_goal}
-use Rattle.tcl_blast.specs.Models.{is_algebraic_claim}
+-- The clauses may be made; where they are too many, this is the cause.
+use Rattle.std.proofs.Common.{◌∙◌, List, [], ap, sym, subst}
+use Rattle.tcl_port.specs.declared.limit.What.TheVariants as what
+use Rattle.tcl_goals.specs.declared.cause.Cause.TheVariants as cause
+use Rattle.tcl_top.specs.Worked.{IsEnded}
+use Rattle.tcl_goals.specs.declared.lemma.Numbered.{Numbered}
+use Rattle.tcl_goals.specs.Order.{InOrder}
+use Rattle.tcl_blast.specs.Ends.{AreTooMany, IsBlastEnd}
 use Rattle.tcl_kernel.specs.Earlier.{Earlier}
-use Rattle.tcl_top.proofs.Checks.{ordered_here}
-use Rattle.tcl_top.proofs.Settling.{clauses_range}
+use Rattle.tcl_top.proofs.Ends.{range_claim, many_ended}
 use Rattle.tcl_top.proofs.searching.searched.Goals as goal
 
 pub clauses-requires-clause-order : goal.clauses-requires-clause-order
 clauses-requires-clause-order c =
-    ordered_here c.args.ssa.now c.args.goal c.lemmas.result.now.items c.args.fact.now c.requires.formed c.requires.goal
-    (c.lemmas.ensures ∙ ap (λ (e : Earlier). e.lemmas) c.requires.earlier) c.requires.fact
+    subst (λ (ls : List Numbered). InOrder c.args.ssa.now ls c.args.fact.now) (sym (c.lemmas.ensures ∙ ap (λ (e : Earlier). e.lemmas) c.requires.earlier)) c.requires.order
 
 pub clauses-requires-clause-range : goal.clauses-requires-clause-range
-clauses-requires-clause-range c =
-    let same = c.as_slice.ensures ∙ c.lines.ensures.lines in
-    let range : is_algebraic_goal c.args.ssa.now.lines c.args.goal ≡ false =
-    ap (λ (ls : List Line). is_algebraic_goal ls c.args.goal) (sym same) ∙ sym c.is_algebraic_goal.ensures ∙ c.if-is_algebraic_goal.false in
-    subst (λ (f : Fact). is_algebraic_claim c.args.ssa.now f.claim ≡ false) (sym c.requires.fact) (clauses_range c.args.ssa.now c.args.goal range)
+clauses-requires-clause-range c = range_claim c.args.ssa.now c.args.fact.now (sym c.has_algebraic_claim.ensures ∙ c.if-has_algebraic_claim.false)
+
+pub worked_by_search-requires-clause-range : goal.worked_by_search-requires-clause-range
+worked_by_search-requires-clause-range c = sym c.has_algebraic_claim.ensures ∙ c.if-has_algebraic_claim.false
+
+pub returns-in-Err-TooMany : goal.returns-in-Err-TooMany
+returns-in-Err-TooMany c =
+    let p = c.args.ssa.now in
+    let fact = c.args.fact.now in
+    let none = c.lemmas.ensures ∙ ap (λ (e : Earlier). e.lemmas) c.requires.earlier in
+    let many : AreTooMany p [] fact c.in-Err-TooMany.count =
+    subst (λ (ls : List Numbered). AreTooMany p ls fact c.in-Err-TooMany.count) none
+    (subst (IsBlastEnd p c.lemmas.result.now.items fact) c.in-Err-TooMany.field-0-is c.in-Err-TooMany.ensures.end) in
+    subst (λ n. IsEnded p fact (cause.Size what.Clauses n)) (sym c.in-Err-TooMany.count-is)
+    (many_ended p fact c.in-Err-TooMany.count c.requires.unbounded c.requires.unwalked
+    (sym c.has_algebraic_claim.ensures ∙ c.if-has_algebraic_claim.false) many)

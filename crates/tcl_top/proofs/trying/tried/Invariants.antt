@@ -1,5 +1,5 @@
 -- No trial before this one refutes.
-use Rattle.tcl_top.specs.Trials.{NoTrialRefutes}
+use Rattle.tcl_kernel.specs.Trials.{NoTrialRefutes}
 use Rattle.tcl_top.proofs.trying.tried.Given as goal
 
 abbrev pub invariant-loop-k : goal.invariant-loop-k

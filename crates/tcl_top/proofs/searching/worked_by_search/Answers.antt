@@ -1,0 +1,24 @@
+-- The answers of the search.
+use Rattle.std.proofs.Common.{subst, List, ℕ}
+use Rattle.tcl_cnf.specs.Clause.{Satisfies}
+use Rattle.tcl_cnf.specs.Literal.{value_at}
+use Rattle.tcl_cnf.specs.FreshLogs.{DeriveFresh}
+use Rattle.tcl_sat.specs.Found.{IsFound}
+use Rattle.tcl_top.specs.Left.{search_budget}
+use Rattle.tcl_top.proofs.Ends.{spent_ended, model_left}
+use Rattle.tcl_top.proofs.searching.worked_by_search.Goals as goal
+
+pub returns-in-Model : goal.returns-in-Model
+returns-in-Model c =
+    let cnf = c.args.cnf.now in
+    let bits = c.in-Model.bits in
+    let m = subst (IsFound cnf 131072) c.in-Model.is c.in_ok-found.ensures.found in
+    model_left c.args.ssa.now c.args.fact.now bits c.requires.unbounded c.requires.unwalked c.requires.range
+    (subst (Satisfies (value_at bits)) c.requires.clauses m.meets)
+
+pub returns-in-Spent : goal.returns-in-Spent
+returns-in-Spent c =
+    let cnf = c.args.cnf.now in
+    let f = subst (IsFound cnf 131072) c.in-Spent.is c.in_ok-found.ensures.found in
+    spent_ended c.args.ssa.now c.args.fact.now c.seal-lines.result c.requires.unbounded c.requires.unwalked c.requires.range
+    (subst (λ (cs : List (List ℕ)). DeriveFresh cs search_budget c.seal-lines.result) c.requires.clauses (c.seal-lines.ensures.fresh cnf search_budget f))

@@ -1,0 +1,30 @@
+-- What is left is not walked.
+use Rattle.std.proofs.Common.{◌≡◌, ◌<◌, ◌∙◌, ap, sym, subst, arith, List, length, []}
+use Rattle.tcl_goals.specs.declared.lemma.Numbered.{Numbered}
+use Rattle.tcl_goals.specs.Free.{free_bits}
+use Rattle.tcl_goals.specs.Order.{InOrder}
+use Rattle.tcl_enum.specs.Enumeration.{ended_of}
+use Rattle.tcl_enum.specs.declared.ended.Ended.TheVariants as ended
+use Rattle.tcl_kernel.specs.Earlier.{Earlier}
+use Rattle.tcl_top.proofs.Walks.{end_wide, many_unwalked, wide_unwalked}
+use Rattle.tcl_top.proofs.working.walk.Goals as goal
+
+pub searched-requires-clause-unwalked : goal.searched-requires-clause-unwalked
+searched-requires-clause-unwalked c =
+    let p = c.args.ssa.now in
+    let none = c.lemmas.ensures ∙ ap (λ (e : Earlier). e.lemmas) c.requires.earlier in
+    let same : c.in_ok-bits.bits ≡ free_bits p [] c.args.fact.now = c.in_ok-bits.ensures ∙ ap (λ ls. free_bits p ls c.args.fact.now) none in
+    let many : 17 < length (free_bits p [] c.args.fact.now) = omega (arith, c.if-len-gt-WALKED.true, c.len.ensures, ap length same) in
+    many_unwalked p c.args.fact.now many
+
+pub enumerate-ended-requires-clause-order : goal.enumerate-ended-requires-clause-order
+enumerate-ended-requires-clause-order c =
+    let none = c.lemmas-2.ensures ∙ ap (λ (e : Earlier). e.lemmas) c.requires.earlier in
+    subst (λ (ls : List Numbered). InOrder c.args.ssa.now ls c.args.fact.now) (sym none) c.requires.order
+
+pub searched-requires-in-Wide-clause-unwalked : goal.searched-requires-in-Wide-clause-unwalked
+searched-requires-in-Wide-clause-unwalked c =
+    let p = c.args.ssa.now in
+    let none = c.lemmas-2.ensures ∙ ap (λ (e : Earlier). e.lemmas) c.requires.earlier in
+    let wide : ended_of p c.lemmas-2.result.now.items c.args.fact.now ≡ ended.Wide = end_wide _ _ c.enumerate-ended.ensures c.in-Wide.is in
+    wide_unwalked p c.args.fact.now (sym (ap (λ ls. ended_of p ls c.args.fact.now) none) ∙ wide)
