@@ -10,6 +10,8 @@ mod example_reductions;
 #[cfg(test)]
 mod examples;
 #[cfg(test)]
+mod narrow;
+#[cfg(test)]
 mod ranges;
 #[cfg(test)]
 mod settled;

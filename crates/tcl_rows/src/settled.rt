@@ -41,7 +41,7 @@ fn goals_whose_clauses_are_searched(rt: HostRuntime) -> Result<(), AllocError> {
         (
             "in u32 x\npre alg x*x = 4\nassert rng x = 2@u32\nend\n",
             2,
-            "goal 0 line 3 assert unproved stray 2\nin x 0\nunproved\n",
+            "goal 0 line 3 assert unproved stray 2\nin x 3\nunproved\n",
         ),
         (
             "in u32 x\nin u32 y\npre alg x = 3\npre alg y = 5 mod 2**32\nassert rng x + y = 8@u32\nend\n",
