@@ -37,9 +37,9 @@ model_end p i bits input o w goal m same is =
     let end = models_stray p (whole_fact p i) i bits w (route_in_order p i route.Whole goal) (whole_is p i) (goal_range p i bits m) m.meets in
     subst (IsModelEnd p i input) (sym is) (subst (λ x. IsModelEnd p i x (first_stray p i x)) (sym same) end)
 
-pub model_refutes : (p : VersionedProgram) (i : ℕ) (bits : List Bool) (input : List ℤ) → IsWellFormed p → has_goal p.lines i ≡ true → IsModelled p (whole_fact p i) bits → input ≡ input_of p [] (whole_fact p i) bits → None ≡ first_stray p i input → IsTrueAnswer (length p.variables) p.lines p i (Refuted input)
-model_refutes p i bits input w goal m same is =
-    refuted_by_model p i input (breaks_refute p i input w (model_end p i bits input None w goal m same is)) (goal_range p i bits m) m.unwalked
+pub model_refutes : (p : VersionedProgram) (i : ℕ) (bits : List Bool) (input : List ℤ) → IsWellFormed p → has_goal p.lines i ≡ true → IsModelled p (whole_fact p i) bits → input ≡ input_of p [] (whole_fact p i) bits → None ≡ first_stray p i input → (IsSettledBy p (cut_fact p i) → ⊥) → IsTrueAnswer (length p.variables) p.lines p i (Refuted input)
+model_refutes p i bits input w goal m same is cut =
+    refuted_by_model p i input (breaks_refute p i input w (model_end p i bits input None w goal m same is)) (goal_range p i bits m) m.unwalked cut m.unsettled
 
 pub model_strays : (p : VersionedProgram) (i : ℕ) (bits : List Bool) (input : List ℤ) (s : Stray) → IsWellFormed p → has_goal p.lines i ≡ true → IsModelled p (whole_fact p i) bits → input ≡ input_of p [] (whole_fact p i) bits → Some s ≡ first_stray p i input → (IsSettledBy p (cut_fact p i) → ⊥) → IsTrueAnswer (length p.variables) p.lines p i (Unproved (cause.Stray s.place s.truth input))
 model_strays p i bits input s w goal m same is cut =

@@ -110,6 +110,7 @@ replaced p n Proved input w e t checks = absurd (t.tells input (breaks_refute p 
 replaced p n (Refuted old) input w e t checks = absurd (cc)
 replaced p n (Unproved c) input w e t checks =
     refuted_later p n input (breaks_refute p n input w checks) (unwalked_where (is_walked p n) t.walked) (λ algebraic. t.tried algebraic (unwalked_where (is_walked p n) t.walked))
+    (λ r s. clash true refl (sym (t.settled r s)))
   where
     unwalked_where : (b : Bool) → (b ≡ true → true ≡ false) → b ≡ false
     unwalked_where true h = absurd (clash true refl (h refl))

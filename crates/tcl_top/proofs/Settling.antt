@@ -25,58 +25,58 @@ pub proved_true : (p : VersionedProgram) (i : ℕ) (r : Route) → Stands p [] (
 proved_true p i r stands = record {
   tells = unbroken p i r stands;
   cause = tt;
-  settled = λ s e. refl;
+  settled = λ r s. refl;
   walked = λ e. refl;
   first = λ e. tt;
   tried = λ a e. tt;
-}
-
--- an input of the walk, of a model, of a trial
-pub refuted_by_walk : (p : VersionedProgram) (i : ℕ) (input : List ℤ) → IsCounterexample (length p.variables) p.lines input i → is_walked p i ≡ true → IsFirstInput p i input → IsTrueAnswer (length p.variables) p.lines p i (Refuted input)
-refuted_by_walk p i input refutes walked first = record {
-  tells = refutes;
-  cause = tt;
-  settled = λ s e. refl;
-  walked = λ e. refl;
-  first = λ e. first;
-  tried = λ a e. absurd (clash (is_walked p i) walked e);
-}
-
-pub refuted_by_model : (p : VersionedProgram) (i : ℕ) (input : List ℤ) → IsCounterexample (length p.variables) p.lines input i → is_algebraic_goal p.lines i ≡ false → is_walked p i ≡ false → IsTrueAnswer (length p.variables) p.lines p i (Refuted input)
-refuted_by_model p i input refutes range unwalked = record {
-  tells = refutes;
-  cause = tt;
-  settled = λ s e. refl;
-  walked = λ e. refl;
-  first = λ e. absurd (clash (is_walked p i) e unwalked);
-  tried = λ a e. absurd (clash (is_algebraic_goal p.lines i) a range);
-}
-
-pub refuted_by_trial : (p : VersionedProgram) (i : ℕ) (input : List ℤ) → IsWellFormed p → is_walked p i ≡ false → IsFirstTrial p i input → IsTrueAnswer (length p.variables) p.lines p i (Refuted input)
-refuted_by_trial p i input w unwalked first = record {
-  tells = breaks_refute p i input w first.refutes;
-  cause = tt;
-  settled = λ s e. refl;
-  walked = λ e. refl;
-  first = λ e. absurd (clash (is_walked p i) e unwalked);
-  tried = λ a e. inl first;
-}
-
--- an input that was found on a later goal
-pub refuted_later : (p : VersionedProgram) (i : ℕ) (input : List ℤ) → IsCounterexample (length p.variables) p.lines input i → is_walked p i ≡ false → (is_algebraic_goal p.lines i ≡ true → NoTrialRefutes p i trial_count) → IsTrueAnswer (length p.variables) p.lines p i (Refuted input)
-refuted_later p i input refutes unwalked untried = record {
-  tells = refutes;
-  cause = tt;
-  settled = λ s e. refl;
-  walked = λ e. refl;
-  first = λ e. absurd (clash (is_walked p i) e unwalked);
-  tried = λ a e. inr (untried a);
 }
 
 -- neither route's fact is settled
 both_routes : (p : VersionedProgram) (i : ℕ) → (IsSettledBy p (cut_fact p i) → ⊥) → (IsSettledBy p (whole_fact p i) → ⊥) → (r : Route) → IsSettledBy p (route_fact p i r) → ⊥
 both_routes p i cut whole route.Cut s = cut s
 both_routes p i cut whole route.Whole s = whole s
+
+-- an input of the walk, of a model, of a trial
+pub refuted_by_walk : (p : VersionedProgram) (i : ℕ) (input : List ℤ) → IsCounterexample (length p.variables) p.lines input i → is_walked p i ≡ true → IsFirstInput p i input → (IsSettledBy p (cut_fact p i) → ⊥) → (IsSettledBy p (whole_fact p i) → ⊥) → IsTrueAnswer (length p.variables) p.lines p i (Refuted input)
+refuted_by_walk p i input refutes walked first cut whole = record {
+  tells = refutes;
+  cause = tt;
+  settled = λ r s. absurd (both_routes p i cut whole r s);
+  walked = λ e. refl;
+  first = λ e. first;
+  tried = λ a e. absurd (clash (is_walked p i) walked e);
+}
+
+pub refuted_by_model : (p : VersionedProgram) (i : ℕ) (input : List ℤ) → IsCounterexample (length p.variables) p.lines input i → is_algebraic_goal p.lines i ≡ false → is_walked p i ≡ false → (IsSettledBy p (cut_fact p i) → ⊥) → (IsSettledBy p (whole_fact p i) → ⊥) → IsTrueAnswer (length p.variables) p.lines p i (Refuted input)
+refuted_by_model p i input refutes range unwalked cut whole = record {
+  tells = refutes;
+  cause = tt;
+  settled = λ r s. absurd (both_routes p i cut whole r s);
+  walked = λ e. refl;
+  first = λ e. absurd (clash (is_walked p i) e unwalked);
+  tried = λ a e. absurd (clash (is_algebraic_goal p.lines i) a range);
+}
+
+pub refuted_by_trial : (p : VersionedProgram) (i : ℕ) (input : List ℤ) → IsWellFormed p → is_walked p i ≡ false → IsFirstTrial p i input → (IsSettledBy p (cut_fact p i) → ⊥) → (IsSettledBy p (whole_fact p i) → ⊥) → IsTrueAnswer (length p.variables) p.lines p i (Refuted input)
+refuted_by_trial p i input w unwalked first cut whole = record {
+  tells = breaks_refute p i input w first.refutes;
+  cause = tt;
+  settled = λ r s. absurd (both_routes p i cut whole r s);
+  walked = λ e. refl;
+  first = λ e. absurd (clash (is_walked p i) e unwalked);
+  tried = λ a e. inl first;
+}
+
+-- an input that was found on a later goal
+pub refuted_later : (p : VersionedProgram) (i : ℕ) (input : List ℤ) → IsCounterexample (length p.variables) p.lines input i → is_walked p i ≡ false → (is_algebraic_goal p.lines i ≡ true → NoTrialRefutes p i trial_count) → ((r : Route) → IsSettledBy p (route_fact p i r) → ⊥) → IsTrueAnswer (length p.variables) p.lines p i (Refuted input)
+refuted_later p i input refutes unwalked untried routes = record {
+  tells = refutes;
+  cause = tt;
+  settled = λ r s. absurd (routes r s);
+  walked = λ e. refl;
+  first = λ e. absurd (clash (is_walked p i) e unwalked);
+  tried = λ a e. inr (untried a);
+}
 
 pub unproved_true : (p : VersionedProgram) (i : ℕ) (c : Cause) → IsTrueCause p search_budget (whole_piece i) c → (IsSettledBy p (cut_fact p i) → ⊥) → (IsSettledBy p (whole_fact p i) → ⊥) → is_walked p i ≡ false → (is_algebraic_goal p.lines i ≡ true → NoTrialRefutes p i trial_count) → IsTrueAnswer (length p.variables) p.lines p i (Unproved c)
 unproved_true p i c cause cut whole unwalked untried = record {

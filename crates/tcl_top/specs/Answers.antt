@@ -33,6 +33,11 @@ is_unproved _ = false
 abbrev pub any_unproved : List Answer → Bool
 any_unproved answers = list_any is_unproved answers
 
+-- the answer that no input refutes the goal
+abbrev pub is_proved : Answer → Bool
+is_proved Proved = true
+is_proved _ = false
+
 -- the answer that a goal is refuted
 abbrev pub is_refuted : Answer → Bool
 is_refuted (Refuted input) = true
@@ -69,13 +74,13 @@ abbrev pub IsSettledBy : VersionedProgram → Fact → Type 0
 IsSettledBy p fact = (is_bounded p fact ≡ true) ⊎ IsDecidedByUnits p fact ⊎ (is_reduced p fact ≡ true)
 
 -- An answer for goal i of a program, which has this form, is true. What it says is so, and a cause is true of the whole piece
--- of the goal. The goal is not unproved where the fact of its cut or its whole route is settled so, or where the assignments
--- of its whole fact are walked. Where they are, an input is the first that the walk finds; of an algebraic goal of which they
--- are not, the first of the trial inputs that refutes, if one does.
+-- of the goal. The goal is proved where the fact of its cut or its whole route is settled so, and it is not unproved where the
+-- assignments of its whole fact are walked. Where they are, an input is the first that the walk finds; of an algebraic goal of
+-- which they are not, the first of the trial inputs that refutes, if one does.
 pub record IsTrueAnswer (names : ℕ) (lines : List Line) (form : VersionedProgram) (i : ℕ) (answer : Answer) : Type 0 where
   pub tells : Tells names lines i answer
   pub cause : HasTrueCause form i answer
-  pub settled : (r : Route) → IsSettledBy form (route_fact form i r) → is_unproved answer ≡ false
+  pub settled : (r : Route) → IsSettledBy form (route_fact form i r) → is_proved answer ≡ true
   pub walked : is_walked form i ≡ true → is_unproved answer ≡ false
   pub first : is_walked form i ≡ true → HasFirstInput form i answer
   pub tried : is_algebraic_goal form.lines i ≡ true → is_walked form i ≡ false → HasFirstTrial form i answer

@@ -82,6 +82,7 @@ fn refuted(alloc: Global, ssa: &Ssa, goal: u32, input: Input) -> Result<Answer, 
     requires formed { IsWellFormed ssa.now }
     requires goal { has_goal ssa.now.lines goal ≡ true }
     requires fails { IsFailing ssa.now (whole_fact ssa.now goal) input }
+    requires cut { IsSettledBy ssa.now (cut_fact ssa.now goal) → ⊥ }
     ensures { IfOk result (λ answer. IsTrueAnswer (length ssa.now.variables) ssa.now.lines ssa.now goal answer) }
 {
     match check_break(alloc, ssa, goal, input.copy()?) {

@@ -14,7 +14,7 @@ returns-in-Proof c =
     let found = found_checks p c.args.goal f.free c.requires.formed c.requires.goal f.fails in
     refuted_by_walk p c.args.goal c.args.input
     (shown_refutes p c.args.goal c.in-Proof.proof c.args.input c.in_ok-copy.field-0 c.in_ok-copy.ensures.copy c.in-Proof.ensures.1 c.shown-shown.ensures.holds)
-    f.walked (subst (IsFirstInput p c.args.goal) (sym f.input_is) found.1)
+    f.walked (subst (IsFirstInput p c.args.goal) (sym f.input_is) found.1) c.requires.cut f.unsettled
 
 pub returns-in-Bad : goal.returns-in-Bad
 returns-in-Bad c =

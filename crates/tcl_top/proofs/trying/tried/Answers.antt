@@ -10,6 +10,7 @@ pub returns-then-branch : goal.returns-then-branch
 returns-then-branch c =
     refuted_by_trial c.args.ssa.now c.args.goal c.in_ok-input.input c.requires.formed c.requires.ended.unwalked
     (first_trial c.args.ssa.now c.args.goal c.loop-k.k c.in_ok-input.input c.loop-k-test.true c.loop-k.invariant c.in_ok-input.ensures.values (c.in_ok-is_break.ensures.yes c.if-branch.true))
+    c.requires.cut c.requires.ended.unsettled
 
 pub returns : goal.returns
 returns c =
