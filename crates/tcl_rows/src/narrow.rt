@@ -5,7 +5,7 @@ use crate::solo::{expect, plain};
 use std::alloc::AllocError;
 
 #[test]
-fn random_narrow_programs(rt: HostRuntime) -> Result<(), AllocError> {
+fn first_ten_narrow_programs(rt: HostRuntime) -> Result<(), AllocError> {
     let alloc = rt.alloc();
     let cases: &[(&str, u8, &str)] = &[
         (
@@ -58,6 +58,17 @@ fn random_narrow_programs(rt: HostRuntime) -> Result<(), AllocError> {
             0,
             "goal 0 line 4 cut proved\ngoal 1 line 6 exact proved\ngoal 2 line 8 post proved\ngoal 3 line 9 post proved\nverified\n",
         ),
+    ];
+    for (text, status, written) in cases {
+        expect(&rt, alloc, &plain(text), *status, *written)?;
+    }
+    Ok(())
+}
+
+#[test]
+fn second_ten_narrow_programs(rt: HostRuntime) -> Result<(), AllocError> {
+    let alloc = rt.alloc();
+    let cases: &[(&str, u8, &str)] = &[
         (
             "in s4 x0\npre alg x0 = ((x0 - 13) - (x0 - x0))\ncut alg ((8 + x0) - 5) = ((x0)**1 - (x0 + x0)) mod 3\nand s4 v1 x0 x0\nassume rng (x0 - x0) <= x0\nnot u2 v2 3@u2\npost rng (v1 - 3@s4) < 2@s4\npost rng (x0 * v1) < (1@s4 + -2@s4)\nend\n",
             0,
@@ -108,6 +119,17 @@ fn random_narrow_programs(rt: HostRuntime) -> Result<(), AllocError> {
             1,
             "goal 0 line 3 exact refuted\nin x0 0\ngoal 1 line 4 exact proved\ngoal 2 line 6 cut proved\nrefuted\n",
         ),
+    ];
+    for (text, status, written) in cases {
+        expect(&rt, alloc, &plain(text), *status, *written)?;
+    }
+    Ok(())
+}
+
+#[test]
+fn third_ten_narrow_programs(rt: HostRuntime) -> Result<(), AllocError> {
+    let alloc = rt.alloc();
+    let cases: &[(&str, u8, &str)] = &[
         (
             "in s4 x0\nin s3 x1\nassume alg (x1)**3 = ((x1 + 16) - (20 - x0))\nsbbs u1 v1 x0 0@u1 1@u1 1@u1\ncast u3 v1 x0\ncut rng (-4@s3 & -4@s3) != ~(x1)\nadds u4 v4 v5 7@u4 4@u4\nadcs u1 x0 v7 v4 v4 x0\nshl s3 v8 x1 1\nend\n",
             0,
@@ -158,6 +180,17 @@ fn random_narrow_programs(rt: HostRuntime) -> Result<(), AllocError> {
             1,
             "goal 0 line 3 cut proved\ngoal 1 line 10 post refuted\nin x0 0\nin x1 0\nnondet 7 v4 0\nrefuted\n",
         ),
+    ];
+    for (text, status, written) in cases {
+        expect(&rt, alloc, &plain(text), *status, *written)?;
+    }
+    Ok(())
+}
+
+#[test]
+fn fourth_ten_narrow_programs(rt: HostRuntime) -> Result<(), AllocError> {
+    let alloc = rt.alloc();
+    let cases: &[(&str, u8, &str)] = &[
         (
             "in u2 x0\nin s2 x1\nassume rng x0 <= (x0 * x0)\ncut alg (x0 * x0) = ((x0 - 7))**0\npost alg (x1 - (x0)**2) = ((19 * x0))**1\npost alg x1 = ((x0 + x1))**0 mod 16\nend\n",
             1,
@@ -208,6 +241,17 @@ fn random_narrow_programs(rt: HostRuntime) -> Result<(), AllocError> {
             1,
             "goal 0 line 4 exact proved\ngoal 1 line 6 cut refuted\nin x0 0\nrefuted\n",
         ),
+    ];
+    for (text, status, written) in cases {
+        expect(&rt, alloc, &plain(text), *status, *written)?;
+    }
+    Ok(())
+}
+
+#[test]
+fn fifth_ten_narrow_programs(rt: HostRuntime) -> Result<(), AllocError> {
+    let alloc = rt.alloc();
+    let cases: &[(&str, u8, &str)] = &[
         (
             "in u2 x0\nin s4 x1\nadds u1 v1 v2 1@u1 0@u1\nassume alg ((v1 + 18))**2 = v2 mod 8\ncut rng v1 > 1@u1\nvpc s2 v1 v2\nend\n",
             0,
@@ -258,6 +302,17 @@ fn random_narrow_programs(rt: HostRuntime) -> Result<(), AllocError> {
             0,
             "goal 0 line 3 cut proved\ngoal 1 line 4 assert proved\ngoal 2 line 6 exact proved\ngoal 3 line 7 assert proved\ngoal 4 line 10 assert proved\nverified\n",
         ),
+    ];
+    for (text, status, written) in cases {
+        expect(&rt, alloc, &plain(text), *status, *written)?;
+    }
+    Ok(())
+}
+
+#[test]
+fn sixth_ten_narrow_programs(rt: HostRuntime) -> Result<(), AllocError> {
+    let alloc = rt.alloc();
+    let cases: &[(&str, u8, &str)] = &[
         (
             "in s4 x0\nin u2 x1\npre rng x0 = (x0 - x0)\nsub u3 v1 3@u3 2@u3\nsub u2 x0 x1 x1\nor s4 v1 -6@s4 1@s4\nassume rng x0 != (x0 * x1)\ncut alg x1 = ((x0 * x1))**0\nnondet u2 x1\npost alg ((x1)**1 + (-(v1))) = v1\nend\n",
             0,
