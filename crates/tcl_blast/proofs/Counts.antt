@@ -1,32 +1,22 @@
 -- Each part adds clauses behind those that there are, so a list that is too long stays so.
-use Rattle.std.proofs.Common.{◌≡◌, ℕ, ◌+◌, ◌*◌, ◌≤◌, ◌<◌, min, List, [], ◌∷◌, ◌++◌, length, map, take, drop, fold, Option, Some, None, refl, sym, ◌∙◌, ap, subst, arith}
+use Rattle.std.proofs.Common.{◌≡◌, ℕ, ◌+◌, ◌*◌, ◌≤◌, ◌<◌, min, List, [], ◌∷◌, length, take, drop, fold, Some, refl, sym, ◌∙◌, ap, subst, arith}
 use Rattle.std.specs.List.{slice_get}
-use Rattle.std.specs.Option.{option_to_list}
 use Rattle.std.proofs.lemmas.List.{length-append, take-append-drop}
 use Rattle.std.proofs.lemmas.List.Sums.{fold-append}
 use Rattle.tcl_cnf.specs.Literal.{neg}
-use Rattle.tcl_cnf.specs.Clause.{clause_of}
 use Rattle.tcl_gates.specs.declared.gate.Gate.{Gate}
 use Rattle.tcl_gates.specs.Gates.{AreGates, clauses_behind}
 use Rattle.tcl_circuits.specs.Wires.{Wire}
 use Rattle.tcl_lang.specs.declared.range.RngPred.{RngPred}
 use Rattle.tcl_lang.specs.declared.pred.Pred.{Pred}
-use Rattle.tcl_lang.specs.declared.pred.Pred.TheVariants.{Alg, Rng}
-use Rattle.tcl_lang.specs.declared.pred.Line.{Line}
+use Rattle.tcl_lang.specs.declared.pred.Pred.TheVariants.{Rng}
 use Rattle.tcl_lang.specs.Program.{VersionedProgram}
 use Rattle.tcl_lang.specs.Values.{types_of}
 use Rattle.tcl_words.specs.Ranges.{AllWithin}
 use Rattle.tcl_words.specs.Steps.{step_gates, step_words}
-use Rattle.tcl_goals.specs.declared.fact.BitLit.{BitLit}
 use Rattle.tcl_goals.specs.declared.fact.Hyp.{Hyp}
-use Rattle.tcl_goals.specs.declared.fact.Hyp.TheVariants as hyp
-use Rattle.tcl_goals.specs.declared.fact.Claim.{Claim}
-use Rattle.tcl_goals.specs.declared.fact.Claim.TheVariants as claim
 use Rattle.tcl_goals.specs.declared.fact.Fact.{Fact}
-use Rattle.tcl_goals.specs.declared.lemma.Lemma.{Lemma}
 use Rattle.tcl_goals.specs.declared.lemma.Numbered.{Numbered}
-use Rattle.tcl_goals.specs.LemmaList.{lemma_of}
-use Rattle.tcl_goals.specs.Places.{goal_place}
 use Rattle.tcl_blast.specs.declared.blasted.Blasted.{Blasted}
 use Rattle.tcl_blast.specs.declared.ended.BlastEnd.{BlastEnd}
 use Rattle.tcl_blast.specs.declared.ended.BlastEnd.TheVariants.{TooMany, Memory}
@@ -35,7 +25,6 @@ use Rattle.tcl_blast.proofs.GateCounts.{pred_sized, many_clauses}
 use Rattle.tcl_blast.proofs.LineOrder.{pred_made}
 use Rattle.tcl_blast.proofs.Loops.{fold_next}
 use Rattle.tcl_blast.specs.Ends.{IsMade, IsBlastEnd, IsEnd}
-use Rattle.tcl_blast.specs.Lifted.{fixed_bits_of}
 use Rattle.tcl_blast.specs.Blasted.{stated, denied, grown}
 use Rattle.tcl_blast.specs.Clauses.{Handler, by_fixed_bits, with_use, range_wire, with_hyp, used_of, assumed_of, blasted_by, clauses_of, clause_limit}
 use Rattle.tcl_blast.specs.Handlers.{IsBehind, OnlyAppends, bits_behind}

@@ -1,8 +1,8 @@
 -- What the machine computes of sums, products and parts of words is what the rows say.
-use Rattle.std.proofs.Common.{◌≡◌, ℕ, ◌*◌, ◌/◌, ◌%◌, ◌^◌, ◌<◌, ◌≤◌, refl, sym, ◌∙◌, ap, arith, ℤ, pos, negsuc, neg_ℤ, ◌+ℤ◌, ◌*ℤ◌, unsigned_abs, Bool, true, false, [], ◌∷◌, to_z, FitsSigned}
-use Rattle.std.specs.Int.{w128, int_div_euclid}
-use Rattle.std.proofs.lemmas.Int.{ints, to_z_pos, fits_signed_from_abs, unsigned_abs-mul}
-use Rattle.std.proofs.lemmas.Nat.{pow_pos, mod_below, div_below, mul-lt, mul-le}
+use Rattle.std.proofs.Common.{◌≡◌, ℕ, ◌-◌, ◌*◌, ◌/◌, ◌%◌, ◌^◌, ◌<◌, ◌≤◌, refl, sym, ◌∙◌, ap, arith, ℤ, pos, negsuc, neg_ℤ, ◌+ℤ◌, ◌*ℤ◌, unsigned_abs, Bool, true, false, [], ◌∷◌, to_z, of_z, bit_and, FitsSigned, SFits}
+use Rattle.std.specs.Int.{w128, int_div_euclid, int_shr}
+use Rattle.std.proofs.lemmas.Int.{ints, to_z_pos, to_z-of_z, fits_signed_from_abs, unsigned_abs-mul}
+use Rattle.std.proofs.lemmas.Nat.{and_mask, shr_le, pow_pos, mod_below, div_below, mul-lt, mul-le}
 use Rattle.std.proofs.Math.Nat.{pow-le-pow_right}
 use Rattle.tcl_num.specs.Range.{InRange, wrapped}
 use Rattle.tcl_num.proofs.IntegerRing.{int_mul_neg}
@@ -37,22 +37,35 @@ wrap_natural T n p e f = ap (wrap_of T) (sym f) ∙ wrapped_natural T.signed T.w
 pub parts_natural : (w : ℕ) (n : ℤ) (p : ℕ) → pos p ≡ n → parts_of w n ≡ pos (p / 2 ^ w) ∷ pos (p % 2 ^ w) ∷ []
 parts_natural w n p e = ap (parts_of w) (sym e)
 
--- the machine's remainder and quotient by a power of two
-pub machine_low : (p w q : ℕ) → q ≡ 2 ^ w → w ≤ 64 → to_z w128 (p % q) ≡ pos (p % 2 ^ w)
+-- the lowest bits of a natural number by a mask, and its high part by a shift
+pub machine_low : (p w q : ℕ) → q ≡ 2 ^ w → w ≤ 64 → to_z w128 (bit_and p (q - 1)) ≡ pos (p % 2 ^ w)
 machine_low p w q e h =
     let below = mod_below p (2 ^ w) (pow_pos w) in
-    ap (λ m. to_z w128 (p % m)) e ∙ to_z_pos w128 (p % 2 ^ w) (omega (arith, below, power_within w h))
+    ap (λ m. to_z w128 (bit_and p (m - 1))) e ∙ ap (to_z w128) (and_mask p w) ∙ to_z_pos w128 (p % 2 ^ w) (omega (arith, below, power_within w h))
 
-pub machine_high : (p w q : ℕ) (a b : ℤ) → q ≡ 2 ^ w → w ≤ 64 → pos p ≡ a *ℤ b → InRange false w a → InRange false w b → to_z w128 (p / q) ≡ pos (p / 2 ^ w)
-machine_high p w q a b e h f x y =
+pub machine_high : (p w : ℕ) (a b : ℤ) → w ≤ 64 → pos p ≡ a *ℤ b → InRange false w a → InRange false w b → to_z w128 (p / 2 ^ w) ≡ pos (p / 2 ^ w)
+machine_high p w a b h f x y =
     let below = div_below p (2 ^ w) (2 ^ w) (pow_pos w) (product_below a b f x y) in
-    ap (λ m. to_z w128 (p / m)) e ∙ to_z_pos w128 (p / 2 ^ w) (omega (arith, below, power_within w h))
+    to_z_pos w128 (p / 2 ^ w) (omega (arith, below, power_within w h))
   where
     product_below : (a b : ℤ) → pos p ≡ a *ℤ b → InRange false w a → InRange false w b → p < 2 ^ w * 2 ^ w
     product_below (pos a) (pos b) f x y =
         omega (arith, ints, f, mul-lt a b (2 ^ w) (2 ^ w) (omega (arith, ints, x.1)) (omega (arith, ints, y.1)))
     product_below (pos a) (negsuc b) f x y = absurd (omega (arith, ints, y.0))
     product_below (negsuc a) b f x y = absurd (omega (arith, ints, x.0))
+
+-- a shift that copies the sign bit rounds down
+shift_fits : (n : ℤ) (k : ℕ) → SFits w128 n → SFits w128 (int_shr n k)
+shift_fits (pos a) k h = omega (arith, ints, h, shr_le a k)
+shift_fits (negsuc a) k h = omega (arith, ints, h, shr_le a k)
+
+floor_is : (n : ℤ) (k : ℕ) → int_shr n k ≡ int_div_euclid n (pos (2 ^ k))
+floor_is (pos a) k = refl
+floor_is (negsuc a) k = refl
+
+pub machine_floor : (n : ℤ) (k : ℕ) → SFits w128 n → to_z w128 (of_z w128 (int_shr (to_z w128 (of_z w128 n)) k)) ≡ int_div_euclid n (pos (2 ^ k))
+machine_floor n k h =
+    ap (λ z. to_z w128 (of_z w128 (int_shr z k))) (to_z-of_z w128 n h) ∙ to_z-of_z w128 (int_shr n k) (shift_fits n k h) ∙ floor_is n k
 
 -- the floor of a small number is small, so that it can be negated
 pub floor_fits : (n : ℤ) (k : ℕ) → unsigned_abs n < 2 ^ 67 → FitsSigned w128 (neg_ℤ (int_div_euclid n (pos (2 ^ k))))

@@ -2,7 +2,7 @@
 // products are made from magnitudes where the type has no sign.
 
 ghost use Rattle.std.specs.Prelude.{◌≡◌, ◌<◌, ◌≤◌, ◌^◌, ℤ, pos, false, ◌+ℤ◌, ◌-ℤ◌, ◌*ℤ◌, unsigned_abs};
-ghost use Rattle.std.specs.Int.{int_div_euclid, int_rem_euclid};
+ghost use Rattle.std.specs.Int.{int_div_euclid};
 ghost use Rattle.tcl_num.specs.Range.{InRange};
 ghost use Rattle.tcl_lang.specs.Types.{IsTy, InType, wrap_of};
 ghost use Rattle.tcl_lang.specs.Store.{pattern_of};
@@ -10,22 +10,14 @@ ghost use Rattle.tcl_lang.specs.Operands.{IsWordValue};
 
 use crate::ty::Ty;
 use crate::wrapping::wrap;
-use tcl_num::power_of_two;
+use tcl_num::{lowest_bits, power_of_two};
 
 /// The floor of `n / 2 ^ k`.
 pub(crate) fn high_part(n: i128, k: u32) -> i128
     requires { k ≤ 64 }
     ensures { result ≡ int_div_euclid n (pos (2 ^ k)) }
 {
-    n.div_euclid(power_of_two(k))
-}
-
-/// The remainder of `n` modulo `2 ^ k`, from 0 up.
-pub(crate) fn low_part(n: i128, k: u32) -> i128
-    requires { k ≤ 64 }
-    ensures { result ≡ int_rem_euclid n (pos (2 ^ k)) }
-{
-    n.rem_euclid(power_of_two(k))
+    n >> k
 }
 
 /// The two's-complement pattern of `n` at `width` bits.
@@ -34,7 +26,7 @@ pub(crate) fn pattern(n: i128, width: u32) -> u128
     ensures value { result ≡ pattern_of width n }
     ensures below { result < 2 ^ width }
 {
-    low_part(n, width).unsigned_abs()
+    lowest_bits(width, n).unsigned_abs()
 }
 
 /// The value of a word times `2 ^ k`.

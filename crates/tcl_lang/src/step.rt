@@ -8,13 +8,14 @@ ghost use Rattle.tcl_lang.specs.ResultList.{listed};
 ghost use Rattle.tcl_lang.specs.Operands.{HasOperands};
 
 use crate::arithmetic::{
-    difference, difference_with, high_part, joined, low_part, pattern, product, shifted, sum,
-    sum_with, unsigned_product,
+    difference, difference_with, high_part, joined, pattern, product, shifted, sum, sum_with,
+    unsigned_product,
 };
 use crate::instr::Op;
 use crate::result_values::Results;
 use crate::ty::Ty;
 use crate::wrapping::wrap;
+use tcl_num::lowest_bits;
 
 /// The value of the type that is congruent to the product of two values of the type.
 pub fn wrapped_product(ty: Ty, a: i128, b: i128) -> i128
@@ -26,7 +27,7 @@ pub fn wrapped_product(ty: Ty, a: i128, b: i128) -> i128
     if ty.signed {
         wrap(ty, product(a, b))
     } else {
-        (unsigned_product(a, b) % (1u128 << ty.width)) as i128
+        (unsigned_product(a, b) & ((1u128 << ty.width) - 1)) as i128
     }
 }
 
@@ -41,8 +42,8 @@ fn product_parts(ty: Ty, a: i128, b: i128) -> Results
         parts(product(a, b), ty.width)
     } else {
         let whole = unsigned_product(a, b);
-        let count = 1u128 << ty.width;
-        Results::Two((whole / count) as i128, (whole % count) as i128)
+        let mask = (1u128 << ty.width) - 1;
+        Results::Two((whole >> ty.width) as i128, (whole & mask) as i128)
     }
 }
 
@@ -51,7 +52,7 @@ fn parts(n: i128, k: u32) -> Results
     requires { k ≤ 64 }
     ensures { listed result ≡ parts_of k n }
 {
-    Results::Two(high_part(n, k), low_part(n, k))
+    Results::Two(high_part(n, k), lowest_bits(k, n))
 }
 
 // The borrow of a difference, and the difference modulo 2 ^ k.
@@ -60,7 +61,7 @@ fn borrowed(n: i128, k: u32) -> Results
     requires small { unsigned_abs n < 2 ^ 67 }
     ensures { listed result ≡ borrow_of k n }
 {
-    Results::Two(-high_part(n, k), low_part(n, k))
+    Results::Two(-high_part(n, k), lowest_bits(k, n))
 }
 
 // The word of a bit pattern.

@@ -77,9 +77,9 @@ fn residue_value(signed: bool, width: u32, n: i128) -> i128
     }
 }
 
-// The number whose bits are the lowest `width` bits of `n` in two's complement: the remainder of `n` from 0 up, without
-// a division.
-fn lowest_bits(width: u32, n: i128) -> i128
+/// The number whose bits are the lowest `width` bits of `n` in two's complement, where `width` is at most 64: the remainder
+/// of `n` modulo 2 to the power of `width`, from 0 up, without a division.
+pub fn lowest_bits(width: u32, n: i128) -> i128
     requires narrow { width ≤ 64 }
     ensures { result ≡ int_rem_euclid n (pos (2 ^ width)) }
 {

@@ -19,7 +19,7 @@ overflow_sub-result c =
 pub returns : goal.returns
 returns c =
     let floor : to_z w128 (of_z w128 c.high_part.result) ≡ int_div_euclid c.args.n (pos (2 ^ c.args.k)) = search rules in
-    let low : to_z w128 (of_z w128 c.low_part.result) ≡ int_rem_euclid c.args.n (pos (2 ^ c.args.k)) = search rules in
+    let low : to_z w128 (of_z w128 c.lowest_bits.result) ≡ int_rem_euclid c.args.n (pos (2 ^ c.args.k)) = search rules in
     two_same _ _ _ _
     (ap (λ z. to_z w128 (of_z w128 z)) (turned _ _ floor) ∙ to_z-of_z w128 (neg_ℤ (int_div_euclid c.args.n (pos (2 ^ c.args.k)))) (floor_fits c.args.n c.args.k c.requires.small))
     low

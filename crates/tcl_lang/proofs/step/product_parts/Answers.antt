@@ -14,6 +14,6 @@ returns-else-ty c =
     let power = one_shl c.args.ty.width 128 (omega (arith, c.requires.of_words.1)) in
     let product = product_passed c.unsigned_product-whole.result c.args.a c.args.b _ _ c.unsigned_product-whole.ensures (to_z-of_z w128 c.args.a c.ranges.a) (to_z-of_z w128 c.args.b c.ranges.b) in
     two_same _ _ _ _
-    (machine_high c.unsigned_product-whole.result c.args.ty.width _ c.args.a c.args.b power c.requires.of_words.1 product (unsigned_value c.args.ty c.args.a c.if-ty.false c.requires.first) (unsigned_value c.args.ty c.args.b c.if-ty.false c.requires.second))
+    (machine_high c.unsigned_product-whole.result c.args.ty.width c.args.a c.args.b c.requires.of_words.1 product (unsigned_value c.args.ty c.args.a c.if-ty.false c.requires.first) (unsigned_value c.args.ty c.args.b c.if-ty.false c.requires.second))
     (machine_low c.unsigned_product-whole.result c.args.ty.width _ power c.requires.of_words.1)
     ∙ sym (parts_natural c.args.ty.width _ c.unsigned_product-whole.result product)
