@@ -22,8 +22,8 @@ use std::{env, io};
 
 // What is to be done.
 enum Workload {
-    // Search for values that make a formula true.
-    Search(Formula),
+    // Search for values that make a formula true, until so many clauses are derived.
+    Search(Formula, u32),
     // Print a formula for other solvers.
     Dimacs(Formula),
     // Parse a text of so many bytes.
@@ -49,7 +49,12 @@ enum Workload {
 fn workload_of(words: &[&str]) -> Option<Workload> {
     let (name, rest) = words.split_first()?;
     match *name {
-        "search" => Some(Workload::Search(Formula::of_words(rest)?)),
+        "search" => Some(Workload::Search(Formula::of_words(rest)?, searching::BUDGET)),
+        "learn" => {
+            let (budget, rest) = rest.split_first()?;
+            let formula = Formula::of_words(rest)?;
+            Some(Workload::Search(formula, budget.parse().ok()?))
+        }
         "dimacs" => Some(Workload::Dimacs(Formula::of_words(rest)?)),
         "parse" => {
             let (kind, size) = pair_of(rest)?;
@@ -108,7 +113,7 @@ fn chosen(rt: &HostRuntime, alloc: Global) -> io::Result<Option<Workload>> {
 // What is printed of a workload.
 fn text_of(alloc: Global, workload: Workload) -> Result<String, AllocError> {
     match workload {
-        Workload::Search(formula) => searching::search_text(alloc, formula),
+        Workload::Search(formula, budget) => searching::search_text(alloc, formula, budget),
         Workload::Dimacs(formula) => searching::formula_text(alloc, formula),
         Workload::Parse(kind, size) => reading::parse_text(alloc, kind, size),
         Workload::Reduce(count, definitions) => reducing::reduce_text(alloc, count, definitions),

@@ -1,16 +1,17 @@
 // Searches, and the same formulas in the format of the DIMACS challenge of 1993.
 
-ghost use Rattle.std.specs.Prelude.{◌≡◌};
+ghost use Rattle.std.specs.Prelude.{◌≡◌, ◌<◌, ◌≤◌, length};
 
 use crate::formula::Formula;
 use std::alloc::{AllocError, Global};
-use tcl_cnf::{Clause, Cnf};
+use tcl_cnf::{Clause, Cnf, Log};
 use tcl_port::{Poll, Port};
 use tcl_sat::{Found, search};
 
-// How many clauses a search may derive, and in rounds of how many.
-const BUDGET: u32 = 131_072;
+/// How many clauses a search may derive where no word says it.
+pub(crate) const BUDGET: u32 = 131_072;
 
+// In rounds of how many.
 const ROUND: u32 = 1_024;
 
 // A port that counts the polls, and never cancels.
@@ -30,27 +31,48 @@ impl Port for Patient {
     }
 }
 
-// The answer of a search, and how many clauses it derived.
+// The answer of a search, how many clauses it derived, and how many literals these have.
 #[derive(Clone, Copy)]
 struct Outcome {
     name: &'static str,
     derived: usize,
+    literals: u64,
 }
 
-/// Searches, and says the answer with the number of derived clauses, of which there is one for each conflict.
-pub(crate) fn search_text(alloc: Global, formula: Formula) -> Result<String, AllocError> {
+/// Searches until so many clauses are derived, and says the answer with the number of derived clauses, of which there is one
+/// for each conflict, and of their literals.
+pub(crate) fn search_text(
+    alloc: Global,
+    formula: Formula,
+    budget: u32,
+) -> Result<String, AllocError> {
     let cnf = formula.clauses(alloc)?;
     let mut port = Patient { polls: 0 };
-    let Outcome { name, derived } = outcome_of(alloc, &cnf, &mut port)?;
+    let Outcome {
+        name,
+        derived,
+        literals,
+    } = outcome_of(alloc, &cnf, budget.max(1), &mut port)?;
     let polls = port.polls;
-    format!(in alloc; "{name} {derived}\nclauses {} polls {polls}\n", cnf.len())
+    format!(in alloc;
+        "{name} {derived} literals {literals}\nclauses {} polls {polls}\n",
+        cnf.len()
+    )
 }
 
-fn outcome_of(alloc: Global, cnf: &Cnf, port: &mut Patient) -> Result<Outcome, AllocError> {
-    let found = search(alloc, cnf, BUDGET, ROUND, port)?;
+fn outcome_of(
+    alloc: Global,
+    cnf: &Cnf,
+    budget: u32,
+    port: &mut Patient,
+) -> Result<Outcome, AllocError>
+    requires { 1 ≤ budget }
+{
+    let found = search(alloc, cnf, budget, ROUND, port)?;
     let outcome = Outcome {
         name: name_of(&found),
         derived: derived_by(&found),
+        literals: literals_by(&found),
     };
     drop(found);
     Ok(outcome)
@@ -72,6 +94,33 @@ fn derived_by(found: &Found) -> usize {
         Found::Spent(log) => log.len().saturating_sub(log.given()),
         Found::Model(_) => 0,
         Found::Stopped => 0,
+    }
+}
+
+// How many literals the derived clauses have, where there is a log.
+fn literals_by(found: &Found) -> u64 {
+    match found {
+        Found::Refutes(log) => derived_literals(log),
+        Found::Spent(log) => derived_literals(log),
+        Found::Model(_) => 0,
+        Found::Stopped => 0,
+    }
+}
+
+fn derived_literals(log: &Log) -> u64 {
+    let mut count = 0_u64;
+    for k in log.given()..log.len() {
+        count = count.saturating_add(literals_at(log, k));
+    }
+    count
+}
+
+fn literals_at(log: &Log, k: usize) -> u64
+    requires { k < length log.now.clauses }
+{
+    match u32::try_from(k) {
+        Ok(k) => log.clause(k).len() as u64,
+        Err(_) => 0,
     }
 }
 
