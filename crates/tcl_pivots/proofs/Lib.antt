@@ -20,3 +20,4 @@ pub mod TargetSteps
 pub mod TargetTurns
 pub mod Quotients
 pub mod MadeCofactors
+pub mod HeldRows

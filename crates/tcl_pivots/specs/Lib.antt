@@ -5,3 +5,4 @@ pub mod CofactorLists
 pub mod RowState
 pub mod Kept
 pub mod TargetState
+pub mod Held

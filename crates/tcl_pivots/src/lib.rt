@@ -7,8 +7,10 @@ mod laws;
 mod row;
 mod row_reduction;
 mod row_step;
+mod rows;
 mod target_step;
 mod weight;
 
 pub use laws::{cofactors_show, open_is_apart, rows_span, rows_vanish};
 pub use row::{Pivot, Row, Target};
+pub use rows::{Note, Rows};

@@ -8,6 +8,7 @@ ghost use Rattle.tcl_pivots.specs.CofactorLists.{equations_of};
 ghost use Rattle.tcl_reduce.specs.Row.{leading};
 ghost use Rattle.tcl_reduce.specs.Row as rows;
 ghost use Rattle.tcl_pivots.specs.RowState.{row_shown, pivot_shown, reduced_further, IsSound};
+ghost use Rattle.tcl_pivots.specs.Held.{pivots_shown, shown_where, AreSound, AreSorted};
 ghost use Rattle.tcl_pivots.specs.Kept.{IsPivot};
 
 use crate::coefficient::coefficient_of;
@@ -49,4 +50,35 @@ fn leading_coefficient<R: Ring>(ring: &R, a: &Poly<R>, pivot: &Poly<R>) -> Optio
         Some(term) => coefficient_of(ring, a, &term.0),
         None => unreachable!(),
     }
+}
+
+/// The row reduced by kept rows from the greatest leading monomial down, or nothing where a step is wide. The places are those
+/// of the kept rows in that order.
+pub(crate) fn reduce_row<R: Ring>(
+    alloc: Global,
+    ring: &R,
+    equations: &[Poly<R>],
+    kept: &[Pivot<R>],
+    order: &[usize],
+    a: Row<R>,
+) -> Result<Option<Row<R>>, AllocError>
+    requires equations { AllByRecursion (p.IsPolynomial (r.reduced_by (R.modulus_of ring.now))) (equations_of (R.amount ring.now) equations.now) }
+    requires row { IsSound (R.modulus_of ring.now) (equations_of (R.amount ring.now) equations.now) (row_shown (R.amount ring.now) a) }
+    requires sound { AreSound (R.modulus_of ring.now) (equations_of (R.amount ring.now) equations.now) (pivots_shown (R.amount ring.now) kept.now) }
+    requires sorted { AreSorted (pivots_shown (R.amount ring.now) kept.now) order.now }
+    ensures reduced { IfOk result (λ o. rows.row_by (R.modulus_of ring.now) (equations_of (R.amount ring.now) equations.now) (rows.by_leading (pivots_shown (R.amount ring.now) kept.now)) (row_shown (R.amount ring.now) a)
+        ≡ shown_where (R.amount ring.now) o) }
+    ensures sound { IfOk result (λ o. MatchOption o (Unit {0}) (λ b. IsSound (R.modulus_of ring.now) (equations_of (R.amount ring.now) equations.now) (row_shown (R.amount ring.now) b))) }
+{
+    let mut a = a;
+    let mut i = 0;
+    while i < order.len() {
+        let pivot: &Pivot<R> = &kept[order[i]];
+        match reduce_by_pivot(alloc, ring, equations, a, pivot)? {
+            Some(next) => a = next,
+            None => return Ok(None),
+        }
+        i += 1;
+    }
+    Ok(Some(a))
 }

@@ -1,0 +1,55 @@
+-- Kept rows as the code holds them, and what is known of them.
+use Rattle.std.specs.Prelude.{◌≡◌, ℕ, ◌<◌, List, [], map, length, slice_index_or, ℤ, pos, Option, None, Some}
+use Rattle.std.specs.List.{AllByRecursion}
+use Rattle.tcl_ring.specs.Reduction.{reduced_by}
+use Rattle.tcl_poly.specs.Polynomial.{Polynomial}
+use Rattle.tcl_reduce.specs.Row as s
+use Rattle.tcl_pivots.specs.declared.row.Row.{Row}
+use Rattle.tcl_pivots.specs.declared.row.Pivot.{Pivot}
+use Rattle.tcl_pivots.specs.declared.rows.Note.{Note}
+use Rattle.tcl_pivots.specs.declared.rows.Note.TheVariants.{NoInverse, Wide}
+use Rattle.tcl_pivots.specs.RowState.{row_shown, pivot_shown, IsSound}
+use Rattle.tcl_pivots.specs.Kept.{AreKept}
+
+-- the kept rows in the order in which they were found, their places from the greatest leading monomial down, and the notes
+pub record Held (R E : Type 0) : Type 0 where
+  pub kept : List (Pivot R E)
+  pub order : List ℕ
+  pub notes : List Note
+
+abbrev pub note_shown : Note → s.Note
+note_shown (NoInverse c) = s.NoInverse c
+note_shown (Wide place) = s.WideAt place
+
+-- the kept rows with their coefficients' values
+abbrev pub pivots_shown : {R E : Type 0} → (E → ℤ) → List (Pivot R E) → List s.Pivot
+pivots_shown value ps = map (pivot_shown value) ps
+
+abbrev pub rows_shown : {R E : Type 0} → (E → ℤ) → Held R E → s.Rows
+rows_shown value h = record { kept = pivots_shown value h.kept; notes = map note_shown h.notes }
+
+-- a row where there is one, with its coefficients' values
+abbrev pub shown_where : {R E : Type 0} → (E → ℤ) → Option (Row R E) → Option s.Row
+shown_where value None = None
+shown_where value (Some a) = Some (row_shown value a)
+
+-- a row for places that have none
+abbrev pub no_pivot : s.Pivot
+no_pivot = record { row = record { poly = []; cofactors = []; place = 0 }; inverse = pos 0 }
+
+-- the rows at these places
+abbrev pub pivots_at : List s.Pivot → List ℕ → List s.Pivot
+pivots_at ps places = map (λ k. slice_index_or ps k no_pivot) places
+
+-- every row is sound and kept
+abbrev pub AreSound : Option ℕ → List Polynomial → List s.Pivot → Type 0
+AreSound m equations ps = AllByRecursion (λ p. IsSound m equations p.row) ps × AreKept (reduced_by m) ps
+
+-- the places are those of the rows from the greatest leading monomial down
+abbrev pub AreSorted : List s.Pivot → List ℕ → Type 0
+AreSorted ps places = AllByRecursion (λ k. k < length ps) places × (pivots_at ps places ≡ s.by_leading ps)
+
+-- what is known of held rows
+pub record AreHeld {R E : Type 0} (m : Option ℕ) (equations : List Polynomial) (value : E → ℤ) (h : Held R E) : Type 0 where
+  pub sound : AreSound m equations (pivots_shown value h.kept)
+  pub sorted : AreSorted (pivots_shown value h.kept) h.order
