@@ -21,3 +21,8 @@ pub mod TargetTurns
 pub mod Quotients
 pub mod MadeCofactors
 pub mod HeldRows
+pub mod Inverses
+pub mod Sorting
+pub mod AddedRows
+pub mod TargetReducing
+mod SearchExamples

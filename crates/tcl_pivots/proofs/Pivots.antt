@@ -83,7 +83,7 @@ AreDescending [] = Unit {0}
 AreDescending (p ∷ ps) = AllByRecursion (λ q. IsLess (lead q) (lead p)) ps × AreDescending ps
 
 -- rows with different leading monomials
-abbrev AreOther : Pivot → Pivot → Type 0
+abbrev pub AreOther : Pivot → Pivot → Type 0
 AreOther p q = (lead p ≡ lead q → ⊥) × IsMonomial (lead q)
 
 all_below : (m n : Monomial) (qs : List Pivot) → IsLess m n → AllByRecursion (λ q. IsLess (lead q) m) qs → AllByRecursion (λ q. IsLess (lead q) n) qs
@@ -99,7 +99,7 @@ insert_descends p (q ∷ qs) i other h =
       at Equal s k = absurd (other.0.0 s)
       at Greater s k = ((s, all_below (lead q) (lead p) qs s h.0), h)
 
-others : (r : ℤ → ℤ) → IsReduction r → (p : Pivot) (qs : List Pivot) → AllByRecursion (LacksLead r p) qs → AllByRecursion (IsPivot r) qs → AllByRecursion (AreOther p) qs
+pub others : (r : ℤ → ℤ) → IsReduction r → (p : Pivot) (qs : List Pivot) → AllByRecursion (LacksLead r p) qs → AllByRecursion (IsPivot r) qs → AllByRecursion (AreOther p) qs
 others r ring p [] h j = tt
 others r ring p (q ∷ qs) h j = (
   (λ e. j.0.some (sym (coefficient_is r ring q.row.poly j.0.over (lead q)) ∙ ap (λ m. r (coefficient q.row.poly m)) (sym e) ∙ h.0 ∙ ring.null), j.0.monomial),

@@ -35,7 +35,7 @@ unit_factor (suc zero) b e = refl
 unit_factor (suc (suc a)) zero e = absurd (omega (arith, e))
 unit_factor (suc (suc a)) (suc b) e = absurd (omega (arith, e))
 
-unit_magnitude : (a b : ℤ) → a *ℤ b ≡ pos 1 → unsigned_abs a ≡ 1
+pub unit_magnitude : (a b : ℤ) → a *ℤ b ≡ pos 1 → unsigned_abs a ≡ 1
 unit_magnitude a b e = unit_factor (unsigned_abs a) (unsigned_abs b) (sym (unsigned_abs-mul a b) ∙ ap unsigned_abs e)
 
 pub quotient_narrow : (m : Option ℕ) (es : List Polynomial) (a : Row) (p : Pivot) → AllByRecursion (IsPolynomial (reduced_by m)) es → IsSound m es a → IsPivot (reduced_by m) p → is_wide m (unsigned_abs (coefficient a.poly (lead p) *ℤ p.inverse)) ≡ false

@@ -47,7 +47,7 @@ left_weight r ring es claim f h φ =
     ∙ right_sum r ring (weigh φ claim) (negsuc 0 *ℤ b) (weigh φ minus) other
     ∙ sym (weigh_sum r ring φ claim minus)
 
-left_norm : (es : List Polynomial) (claim : Polynomial) (f : Target) → AllByRecursion (IsPolynomial (reduced_by None)) es → IsPolynomial (reduced_by None) claim → IsPolynomial (reduced_by None) f.poly → AreMade (reduced_by None) (length es) f.cofactors → MakesClaim (reduced_by None) es claim f → norm_of f.poly ≤ norm_of claim + weight_of (λ n. n) es f.cofactors
+pub left_norm : (es : List Polynomial) (claim : Polynomial) (f : Target) → AllByRecursion (IsPolynomial (reduced_by None)) es → IsPolynomial (reduced_by None) claim → IsPolynomial (reduced_by None) f.poly → AreMade (reduced_by None) (length es) f.cofactors → MakesClaim (reduced_by None) es claim f → norm_of f.poly ≤ norm_of claim + weight_of (λ n. n) es f.cofactors
 left_norm es claim f h i o made sum =
     let r = reduced_by None in let ring = is_reduction None tt in
     let q = combination_of r (λ n. n) es f.cofactors in

@@ -1,7 +1,8 @@
 -- Kept rows as the code holds them, and what is known of them.
-use Rattle.std.specs.Prelude.{◌≡◌, ℕ, ◌<◌, List, [], map, length, slice_index_or, ℤ, pos, Option, None, Some}
+use Rattle.std.specs.Prelude.{◌≡◌, ℕ, ◌<◌, List, [], ◌∷◌, ◌++◌, map, length, take, drop, slice_index_or, ℤ, pos, Option, None, Some}
 use Rattle.std.specs.List.{AllByRecursion}
 use Rattle.tcl_ring.specs.Reduction.{reduced_by}
+use Rattle.tcl_poly.specs.Monomial.{Monomial}
 use Rattle.tcl_poly.specs.Polynomial.{Polynomial}
 use Rattle.tcl_reduce.specs.Row as s
 use Rattle.tcl_pivots.specs.declared.row.Row.{Row}
@@ -53,3 +54,24 @@ AreSorted ps places = AllByRecursion (λ k. k < length ps) places × (pivots_at 
 pub record AreHeld {R E : Type 0} (m : Option ℕ) (equations : List Polynomial) (value : E → ℤ) (h : Held R E) : Type 0 where
   pub sound : AreSound m equations (pivots_shown value h.kept)
   pub sorted : AreSorted (pivots_shown value h.kept) h.order
+
+-- the monomial in front, and the coefficient where there is one
+abbrev pub front_monomial : {E : Type 0} → List (Monomial × E) → Monomial
+front_monomial [] = []
+front_monomial (t ∷ p) = t.0
+
+abbrev pub front_coefficient : {E : Type 0} → List (Monomial × E) → Option E
+front_coefficient [] = None
+front_coefficient (t ∷ p) = Some t.1
+
+-- no row is zero
+abbrev pub HaveTerms : {R E : Type 0} → List (Pivot R E) → Type 0
+HaveTerms ps = AllByRecursion (λ p. p.row.poly ≡ [] → ⊥) ps
+
+-- that row goes to that place of the order by its leading monomial
+abbrev pub IsPlace : List s.Pivot → List ℕ → s.Pivot → ℕ → Type 0
+IsPlace ps order p i = s.insert_pivot p (pivots_at ps order) ≡ pivots_at ps (take i order) ++ p ∷ pivots_at ps (drop i order)
+
+-- the number was put in at the place of that row
+abbrev pub IsInserted : List s.Pivot → List ℕ → List ℕ → ℕ → s.Pivot → Type 0
+IsInserted ps order after n p = (i : ℕ) × (after ≡ take i order ++ n ∷ drop i order) × IsPlace ps order p i

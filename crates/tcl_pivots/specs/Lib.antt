@@ -6,3 +6,4 @@ pub mod RowState
 pub mod Kept
 pub mod TargetState
 pub mod Held
+pub mod Aim

@@ -5,9 +5,11 @@ mod coefficient;
 mod cofactor_sum;
 mod laws;
 mod row;
+mod row_addition;
 mod row_reduction;
 mod row_step;
 mod rows;
+mod target_reduction;
 mod target_step;
 mod weight;
 

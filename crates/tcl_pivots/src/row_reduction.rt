@@ -41,7 +41,11 @@ pub(crate) fn reduce_by_pivot<R: Ring>(
 }
 
 /// The coefficient that a polynomial has at the leading monomial of another, where it occurs.
-fn leading_coefficient<R: Ring>(ring: &R, a: &Poly<R>, pivot: &Poly<R>) -> Option<R::Elem>
+pub(crate) fn leading_coefficient<R: Ring>(
+    ring: &R,
+    a: &Poly<R>,
+    pivot: &Poly<R>,
+) -> Option<R::Elem>
     requires a { p.IsOver (R.modulus_of ring.now) (R.amount ring.now) a.now }
     requires pivot { pivot.now ≡ [] → ⊥ }
     ensures { MatchOption result (p.coefficient (p.terms_of (R.amount ring.now) a.now) (leading (p.terms_of (R.amount ring.now) pivot.now)) ≡ pos 0) (λ e. (R.amount ring.now e ≡ p.coefficient (p.terms_of (R.amount ring.now) a.now) (leading (p.terms_of (R.amount ring.now) pivot.now))) × (R.amount ring.now e ≡ pos 0 → ⊥)) }

@@ -2,12 +2,11 @@
 
 ghost use Rattle.std.specs.Prelude.{◌≡◌, [], ◌∷◌, ◌++◌, OnOk};
 
+use crate::Pivot;
 use std::alloc::{AllocError, Global};
 use std::marker::Model;
 use tcl_list::Listing;
 use tcl_ring::Ring;
-
-use crate::Pivot;
 
 /// Why a row was left out, or a step on the claim not made.
 #[derive(Clone, Copy, PartialEq, Eq)]
