@@ -1,13 +1,13 @@
 -- A row added: where it goes, and what the rows are then.
-use Rattle.std.proofs.Common.{◌≡◌, ◌⊎◌, inl, inr, ℕ, zero, suc, ◌+◌, ◌<◌, ◌≤◌, refl, sym, ◌∙◌, ap, subst, arith, List, [], ◌∷◌, ◌++◌, take, drop, length, map, get_or, ℤ, pos, ◌*ℤ◌, Option, Some, None, Result, Ok, Err, Ordering, Less, Equal, Greater}
+use Rattle.std.proofs.Common.{◌≡◌, ℕ, ◌+◌, ◌<◌, ◌≤◌, refl, sym, ◌∙◌, ap, subst, arith, List, [], ◌∷◌, ◌++◌, take, drop, length, map, get_or, ℤ, pos, ◌*ℤ◌, Option, Some, None, Result, Ok, Err, Ordering, Less, Equal, Greater}
 use Rattle.std.specs.List.{AllByRecursion}
 use Rattle.std.specs.Prelude.{OnOk}
 use Rattle.std.proofs.lemmas.List.{map-append, map_more, length-map, get_or_default}
 use Rattle.tcl_num.proofs.IntegerRing.{int_mul_comm}
-use Rattle.tcl_ring.specs.Reduction.{IsReduction, IsModulus, reduced_by, IsElement}
+use Rattle.tcl_ring.specs.Reduction.{IsModulus, reduced_by, IsElement}
 use Rattle.tcl_ring.proofs.Reductions.{is_reduction}
 use Rattle.tcl_poly.specs.Monomial.{Monomial, order}
-use Rattle.tcl_poly.specs.Polynomial.{Term, Polynomial, IsPolynomial, terms_of, coefficient}
+use Rattle.tcl_poly.specs.Polynomial.{Polynomial, IsPolynomial, terms_of, coefficient}
 use Rattle.tcl_reduce.specs.Inverse.{inverse_of}
 use Rattle.tcl_reduce.specs.Row as s
 use Rattle.tcl_pivots.specs.declared.row.Row.{Row}
@@ -15,8 +15,8 @@ use Rattle.tcl_pivots.specs.declared.row.Pivot.{Pivot}
 use Rattle.tcl_pivots.specs.declared.rows.Note.{Note}
 use Rattle.tcl_pivots.specs.RowLaws.{Lacks}
 use Rattle.tcl_pivots.specs.RowState.{row_shown, pivot_shown, IsSound}
-use Rattle.tcl_pivots.specs.Kept.{lead, IsPivot, LacksLead, AreKept}
-use Rattle.tcl_pivots.specs.Held.{Held, note_shown, pivots_shown, rows_shown, shown_where, no_pivot, pivots_at, AreSound, AreSorted, AreHeld, front_monomial, front_coefficient, HaveTerms, IsPlace, IsInserted}
+use Rattle.tcl_pivots.specs.Kept.{lead, IsPivot, AreKept}
+use Rattle.tcl_pivots.specs.Held.{Held, note_shown, pivots_shown, rows_shown, no_pivot, pivots_at, AreSorted, AreHeld, front_monomial, front_coefficient, HaveTerms, IsPlace, IsInserted}
 use Rattle.tcl_pivots.proofs.Inverting.{OnSome}
 use Rattle.tcl_pivots.proofs.Pivots.{polys, pivot_of, kept_more, all_more, all_sorted, from_sorted, all_pivots, sorted_descends, sorted_spanned}
 use Rattle.tcl_pivots.proofs.Clearing.{IsCleared}

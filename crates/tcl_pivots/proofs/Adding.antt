@@ -1,23 +1,22 @@
 -- A row added to kept rows: they stay rows, and without a note they span it.
-use Rattle.std.proofs.Common.{◌≡◌, ◌⊎◌, inl, inr, refl, sym, ◌∙◌, ap, subst, arith, Bool, true, false, List, [], ◌∷◌, ◌++◌, map, length, ◌==◌, if◌then◌else◌, ℤ, pos, negsuc, ◌+ℤ◌, ◌-ℤ◌, ◌*ℤ◌, unsigned_abs, Option, Some, None, ℕ}
+use Rattle.std.proofs.Common.{◌≡◌, ◌⊎◌, inl, inr, refl, sym, ap, subst, arith, List, [], ◌∷◌, ◌++◌, length, ◌==◌, if◌then◌else◌, ℤ, pos, negsuc, ◌+ℤ◌, ◌-ℤ◌, ◌*ℤ◌, unsigned_abs, Option, Some, None, ℕ}
 use Rattle.std.specs.List.{AllByRecursion}
 use Rattle.std.proofs.lemmas.Int.{ints}
 use Rattle.std.proofs.lemmas.Bool.{eqb-true}
 use Rattle.tcl_num.proofs.IntegerOrder.{unsigned_abs_zero}
 use Rattle.tcl_ring.specs.Reduction.{IsReduction, reduced_by, IsModulus}
-use Rattle.tcl_poly.specs.Monomial.{Monomial, IsMonomial}
 use Rattle.tcl_poly.specs.Polynomial.{Term, Polynomial, IsPolynomial, coefficient}
 use Rattle.tcl_reduce.specs.Inverse.{inverse_of}
 use Rattle.tcl_reduce.specs.CofactorSum.{are_wide}
-use Rattle.tcl_reduce.specs.Row.{Row, Pivot, Note, Rows, leading, by_leading, row_less, row_by, with_note, keep_by, keep, add_reduced, add_row, NoInverse, WideAt}
+use Rattle.tcl_reduce.specs.Row.{Row, Pivot, Note, Rows, by_leading, row_less, row_by, with_note, keep_by, keep, add_reduced, add_row, NoInverse, WideAt}
 use Rattle.tcl_reduce.specs.Span.{IsSpanned}
 use Rattle.tcl_pivots.specs.Apart.{AreApart}
-use Rattle.tcl_pivots.specs.RowLaws.{Lacks, AreSpanned}
+use Rattle.tcl_pivots.specs.RowLaws.{AreSpanned}
 use Rattle.tcl_pivots.proofs.Inverting.{OnSome, on_if, inverse_is}
-use Rattle.tcl_pivots.proofs.Spanning.{span_zero, span_alike, span_sum, span_multiple, span_later, span_first, span_last, spans_later, spans_itself, spans_front, span_front}
+use Rattle.tcl_pivots.proofs.Spanning.{span_zero, span_alike, span_sum, span_multiple, span_later, span_first, span_last, spans_later, spans_itself, span_front}
 use Rattle.tcl_pivots.specs.Kept.{lead, IsPivot, LacksLead, AreKept}
 use Rattle.tcl_pivots.proofs.Pivots.{polys, pivot_of, kept_more, all_more, all_sorted, from_sorted, all_pivots, AreDescending, sorted_descends, sorted_spanned}
-use Rattle.tcl_pivots.proofs.Clearing.{less, less_is, IsCleared, cleared_end, cleared_skip, cleared_step}
+use Rattle.tcl_pivots.proofs.Clearing.{less_is, IsCleared, cleared_end, cleared_skip, cleared_step}
 
 pub on_map : {X : Type 0} (P Q : X → Type 0) (o : Option X) → ((x : X) → P x → Q x) → OnSome P o → OnSome Q o
 on_map P Q None f h = tt

@@ -1,19 +1,19 @@
 -- A polynomial reduced by rows from the greatest leading monomial down: it changes by a combination of them, and has none
 -- of their leading monomials then.
-use Rattle.std.proofs.Common.{◌≡◌, refl, sym, ◌∙◌, ap, arith, List, [], ◌∷◌, ℤ, pos, ◌+ℤ◌, ◌-ℤ◌, ◌*ℤ◌, neg_ℤ}
+use Rattle.std.proofs.Common.{◌≡◌, refl, ◌∙◌, ap, arith, List, [], ◌∷◌, ℤ, pos, ◌+ℤ◌, ◌-ℤ◌, ◌*ℤ◌, neg_ℤ}
 use Rattle.std.specs.List.{AllByRecursion}
 use Rattle.std.proofs.lemmas.Int.{ints}
-use Rattle.tcl_num.proofs.IntegerRing.{int_mul_comm, int_mul_assoc, int_mul_zero, int_mul_one, int_add_zero, int_neg_mul}
+use Rattle.tcl_num.proofs.IntegerRing.{int_mul_assoc, int_mul_zero, int_mul_one, int_add_zero, int_neg_mul}
 use Rattle.tcl_ring.specs.Reduction.{IsReduction}
 use Rattle.tcl_poly.specs.Monomial.{Monomial, IsLess, order}
 use Rattle.tcl_poly.specs.Polynomial.{Polynomial, IsPolynomial, sum_of, scaled, coefficient, one_at}
-use Rattle.tcl_poly.proofs.Weights.{two_sums, right_sum, weigh_sum, weigh_scaled}
+use Rattle.tcl_poly.proofs.Weights.{right_sum, weigh_sum, weigh_scaled}
 use Rattle.tcl_poly.proofs.Canonical.{sum_is, scaled_is}
 use Rattle.tcl_reduce.specs.Row.{Pivot, quotient_at}
 use Rattle.tcl_reduce.specs.Span.{IsSpanned}
 use Rattle.tcl_pivots.specs.Apart.{AreApart}
 use Rattle.tcl_pivots.specs.RowLaws.{Lacks}
-use Rattle.tcl_pivots.proofs.Residues.{two_products, same_negation, zero_multiple, same_difference}
+use Rattle.tcl_pivots.proofs.Residues.{two_products, same_difference}
 use Rattle.tcl_pivots.proofs.Spanning.{span_alike, span_multiple, apart_chain, apart_itself}
 use Rattle.tcl_pivots.specs.Kept.{lead, IsPivot}
 use Rattle.tcl_pivots.proofs.Pivots.{AreDescending}

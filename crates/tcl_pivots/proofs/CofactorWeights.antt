@@ -1,14 +1,14 @@
 -- The weight of cofactors by places.
-use Rattle.std.proofs.Common.{◌≡◌, ℕ, zero, suc, ◌+◌, ◌*◌, ◌<◌, ◌≤◌, refl, sym, ◌∙◌, ap, subst, arith, Bool, ◌||◌, List, [], ◌∷◌, length, drop, get_or, map, ℤ}
+use Rattle.std.proofs.Common.{◌≡◌, ℕ, zero, suc, ◌+◌, ◌*◌, ◌<◌, refl, sym, ◌∙◌, ap, subst, Bool, ◌||◌, List, [], ◌∷◌, length, drop, get_or, map, ℤ}
 use Rattle.std.specs.Prelude.{nat_le}
-use Rattle.tcl_poly.specs.Polynomial.{Polynomial, terms_of, degree_of, norm_of}
+use Rattle.tcl_poly.specs.Polynomial.{terms_of, degree_of, norm_of}
 use Rattle.tcl_poly.specs.declared.cofactors.Cofactor.{Cofactor}
 use Rattle.tcl_poly.specs.Combination.{Terms, equation_at, weight_of}
 use Rattle.tcl_poly.proofs.TermLists.{degree_of_values, terms_itself}
 use Rattle.tcl_reduce.specs.Answer.{numbered}
 use Rattle.tcl_reduce.specs.CofactorSum.{is_deep}
 use Rattle.tcl_pivots.specs.CofactorLists.{AreBelow, equations_of}
-use Rattle.tcl_pivots.proofs.CofactorTurns.{valued, value_at, from_place}
+use Rattle.tcl_pivots.proofs.CofactorTurns.{valued, from_place}
 
 below_from : {R E : Type 0} (n : ℕ) (cs : List (Cofactor R E)) (k : ℕ) → AreBelow n (numbered cs) → AreBelow n (numbered (drop k cs))
 below_from n [] zero h = h

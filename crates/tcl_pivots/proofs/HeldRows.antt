@@ -1,5 +1,5 @@
 -- Kept rows read by place.
-use Rattle.std.proofs.Common.{◌≡◌, ℕ, zero, suc, ◌+◌, ◌<◌, ◌≤◌, refl, sym, ◌∙◌, ap, subst, arith, List, [], ◌∷◌, length, drop, get_or, map, ℤ, Option, Some, None}
+use Rattle.std.proofs.Common.{◌≡◌, ℕ, zero, suc, ◌+◌, ◌<◌, ◌≤◌, refl, sym, ◌∙◌, ap, subst, arith, List, [], ◌∷◌, length, drop, get_or, ℤ, Option, Some}
 use Rattle.std.specs.List.{AllByRecursion}
 use Rattle.std.proofs.lemmas.List.{length-map, get_or-map}
 use Rattle.tcl_ring.specs.Reduction.{reduced_by}
@@ -8,8 +8,8 @@ use Rattle.tcl_reduce.specs.Row as s
 use Rattle.tcl_pivots.specs.declared.row.Row.{Row}
 use Rattle.tcl_pivots.specs.declared.row.Pivot.{Pivot}
 use Rattle.tcl_pivots.specs.RowState.{row_shown, pivot_shown, reduced_further, IsSound}
-use Rattle.tcl_pivots.specs.Kept.{IsPivot, AreKept}
-use Rattle.tcl_pivots.specs.Held.{pivots_shown, shown_where, no_pivot, pivots_at, AreSound, AreSorted}
+use Rattle.tcl_pivots.specs.Kept.{IsPivot}
+use Rattle.tcl_pivots.specs.Held.{pivots_shown, no_pivot, pivots_at, AreSound, AreSorted}
 use Rattle.tcl_pivots.proofs.CofactorTurns.{from_place}
 use Rattle.tcl_pivots.proofs.Pivots.{all_pivots}
 

@@ -1,10 +1,10 @@
 -- The inverse that a ring gives is that of the definition.
-use Rattle.std.proofs.Common.{◌≡◌, ◌⊎◌, inl, inr, ℕ, zero, suc, ◌<◌, ◌≤◌, ◌==◌, if◌then◌else◌, refl, sym, ◌∙◌, ap, subst, arith, Bool, true, false, ℤ, pos, ◌*ℤ◌, unsigned_abs, Option, Some, None}
+use Rattle.std.proofs.Common.{◌≡◌, ◌⊎◌, inl, inr, ℕ, zero, suc, ◌<◌, ◌≤◌, ◌==◌, if◌then◌else◌, refl, sym, ◌∙◌, ap, subst, arith, Bool, true, ℤ, pos, ◌*ℤ◌, unsigned_abs, Option, Some, None}
 use Rattle.std.specs.Int.{int_rem_euclid}
 use Rattle.std.proofs.lemmas.Bool.{eqb-true, eq-eqb}
 use Rattle.tcl_num.proofs.EuclideanDivision.{euclid_range, remainder_small}
 use Rattle.tcl_num.proofs.IntegerRing.{int_mul_comm, int_mul_one, int_one_mul, int_mul_assoc, int_mul_swap}
-use Rattle.tcl_ring.specs.Reduction.{IsReduction, reduced_by, IsModulus, IsElement, IsInverse}
+use Rattle.tcl_ring.specs.Reduction.{IsReduction, reduced_by, IsModulus, IsElement}
 use Rattle.tcl_ring.proofs.Reductions.{is_reduction}
 use Rattle.tcl_reduce.specs.Inverse.{or_else, residue_inverse, inverse_of}
 use Rattle.tcl_pivots.proofs.Inverting.{OnSome, on_if, inverse_is, square}

@@ -1,5 +1,5 @@
 -- The monomials over rising keys.
-use Rattle.std.proofs.Common.{◌≡◌, ℕ, zero, suc, ◌+◌, ◌-◌, ◌<◌, ◌≤◌, refl, sym, ap, subst, arith, Bool, List, [], ◌∷◌, ◌++◌, map, if◌then◌else◌, ℤ, Ordering, Less, Equal, Greater}
+use Rattle.std.proofs.Common.{◌≡◌, ℕ, zero, suc, ◌+◌, ◌-◌, ◌<◌, ◌≤◌, refl, arith, List, [], ◌∷◌, map, if◌then◌else◌, Ordering, Less, Equal, Greater}
 use Rattle.std.specs.List.{AllByRecursion}
 use Rattle.std.specs.Prelude.{nat_le}
 use Rattle.std.specs.Ordering.{nat_cmp, MatchOrdering}
@@ -11,7 +11,6 @@ use Rattle.tcl_reduce.specs.Row.{Pivot}
 use Rattle.tcl_reduce.specs.Multiple.{Multiple, insert_key_at, insert_key, keys_of, unknowns_of, row_unknowns, with_power, powers_below, monomials_over, multiples_at, multiples_to, multiples_of}
 use Rattle.tcl_pivots.proofs.Inverting.{on_if}
 use Rattle.tcl_pivots.proofs.Spanning.{all_join}
-use Rattle.tcl_pivots.specs.Kept.{IsPivot}
 
 abbrev AreKeys : ℕ → List ℕ → Type 0
 AreKeys least [] = Unit {0}

@@ -1,9 +1,9 @@
 -- Rows are the sums of their cofactors times the equations: each step keeps this, for every weight of the monomials.
-use Rattle.std.proofs.Common.{◌≡◌, ℕ, zero, suc, ◌+◌, ◌<◌, refl, sym, ◌∙◌, ap, subst, arith, Bool, true, false, List, [], ◌∷◌, ◌++◌, map, length, ◌==◌, if◌then◌else◌, ℤ, pos, negsuc, ◌+ℤ◌, ◌*ℤ◌, neg_ℤ, unsigned_abs, Option, Some, None, Ordering, Less, Equal, Greater}
+use Rattle.std.proofs.Common.{◌≡◌, ℕ, ◌<◌, refl, sym, ◌∙◌, ap, arith, List, [], ◌∷◌, length, ◌==◌, if◌then◌else◌, ℤ, pos, ◌+ℤ◌, ◌*ℤ◌, neg_ℤ, unsigned_abs, Option, Some, None, Ordering, Less, Equal, Greater}
 use Rattle.std.specs.List.{AllByRecursion}
 use Rattle.std.specs.Ordering.{nat_cmp}
 use Rattle.std.proofs.lemmas.Int.{ints}
-use Rattle.tcl_num.proofs.IntegerRing.{int_zero_add, int_add_zero, int_add_assoc, int_mul_add, int_mul_zero}
+use Rattle.tcl_num.proofs.IntegerRing.{int_zero_add, int_add_assoc, int_mul_add, int_mul_zero}
 use Rattle.tcl_ring.specs.Reduction.{IsReduction, reduced_by}
 use Rattle.tcl_poly.specs.Monomial.{Monomial, IsMonomial, times}
 use Rattle.tcl_poly.specs.Polynomial.{Term, Polynomial, IsPolynomial, sum_of, scaled, product_of, weigh, coefficient, terms_of}
@@ -15,10 +15,9 @@ use Rattle.tcl_poly.proofs.TermLists.{terms_itself}
 use Rattle.tcl_poly.specs.Combination.{equation_at, combination_of}
 use Rattle.tcl_reduce.specs.CofactorSum.{front_cofactor, put_cofactor_at, put_cofactor, sum_cofactors, scaled_cofactors, are_wide}
 use Rattle.tcl_reduce.specs.Inverse.{inverse_of}
-use Rattle.tcl_reduce.specs.Row.{Row, Pivot, Note, Rows, leading, quotient_at, by_leading, row_less, row_by, with_note, keep_by, keep, add_reduced, add_row}
+use Rattle.tcl_reduce.specs.Row.{Row, Pivot, Rows, leading, quotient_at, by_leading, row_less, row_by, keep_by, keep, add_reduced, add_row}
 use Rattle.tcl_reduce.specs.Multiple.{multiplied}
 use Rattle.tcl_pivots.proofs.Inverting.{OnSome, on_if}
-use Rattle.tcl_pivots.proofs.Spanning.{all_join}
 use Rattle.tcl_pivots.proofs.Pivots.{all_more, all_sorted}
 use Rattle.tcl_pivots.proofs.Trying.{equation_over}
 

@@ -1,10 +1,10 @@
 -- Kept rows: each has an inverse in front, and no later one has its leading monomial.
-use Rattle.std.proofs.Common.{◌≡◌, refl, sym, ◌∙◌, ap, subst, List, [], ◌∷◌, ◌++◌, map, ℤ, pos, ◌+ℤ◌, ◌*ℤ◌, Ordering, Less, Equal, Greater}
+use Rattle.std.proofs.Common.{◌≡◌, sym, ◌∙◌, ap, subst, List, [], ◌∷◌, ◌++◌, ℤ, pos, ◌*ℤ◌, Ordering, Less, Equal, Greater}
 use Rattle.std.specs.List.{AllByRecursion}
 use Rattle.tcl_ring.specs.Reduction.{IsReduction}
 use Rattle.tcl_poly.specs.Monomial.{Monomial, IsMonomial, IsLess, order}
 use Rattle.tcl_poly.specs.Polynomial.{Term, Polynomial, IsPolynomial, coefficient}
-use Rattle.tcl_poly.proofs.MonomialLaws.{order_says, OrderSays, less_chain, less_self}
+use Rattle.tcl_poly.proofs.MonomialLaws.{order_says, OrderSays, less_chain}
 use Rattle.tcl_poly.proofs.Canonical.{under_chain, no_coefficient, first_coefficient, coefficient_is}
 use Rattle.tcl_reduce.specs.Row.{Pivot, leading, insert_at, insert_pivot, by_leading}
 use Rattle.tcl_pivots.specs.RowLaws.{Lacks, AreRows, AreSpanned}

@@ -1,8 +1,8 @@
 -- The quotient of a step fits, and a constant stands for every number of its residue.
-use Rattle.std.proofs.Common.{◌≡◌, ℕ, zero, suc, ◌+◌, ◌*◌, ◌≤◌, refl, sym, ◌∙◌, ap, arith, false, List, [], ◌∷◌, ℤ, pos, ◌+ℤ◌, ◌*ℤ◌, neg_ℤ, unsigned_abs, Option, None, Some, Ordering, Less, Equal, Greater}
+use Rattle.std.proofs.Common.{◌≡◌, ℕ, zero, suc, ◌*◌, ◌≤◌, refl, sym, ◌∙◌, ap, arith, false, List, [], ◌∷◌, ℤ, pos, ◌*ℤ◌, unsigned_abs, Option, None, Some, Ordering, Less, Equal, Greater}
 use Rattle.std.specs.List.{AllByRecursion}
-use Rattle.std.proofs.lemmas.Int.{ints, unsigned_abs-mul}
-use Rattle.tcl_num.proofs.IntegerOrder.{unsigned_abs_add, unsigned_abs_neg}
+use Rattle.std.proofs.lemmas.Int.{unsigned_abs-mul}
+use Rattle.tcl_num.proofs.IntegerOrder.{unsigned_abs_add}
 use Rattle.tcl_num.proofs.IntegerRing.{int_mul_comm, int_mul_one, int_mul_zero}
 use Rattle.tcl_ring.specs.Reduction.{IsReduction, reduced_by, is_wide}
 use Rattle.tcl_ring.proofs.Reductions.{is_reduction}

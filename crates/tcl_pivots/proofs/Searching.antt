@@ -1,18 +1,17 @@
 -- What the search leaves open without a note is no combination of what was tried.
-use Rattle.std.proofs.Common.{◌≡◌, ◌⊎◌, inl, inr, ℕ, zero, suc, ◌+◌, ◌-◌, refl, sym, ◌∙◌, ap, subst, arith, Bool, true, false, List, [], ◌∷◌, ◌++◌, map, length, ◌==◌, if◌then◌else◌, ℤ, pos, ◌-ℤ◌, unsigned_abs, Option, Some, None}
+use Rattle.std.proofs.Common.{◌≡◌, inl, inr, ℕ, suc, ◌-◌, refl, sym, ◌∙◌, ap, subst, arith, Bool, true, false, List, [], ◌∷◌, ◌++◌, length, ◌==◌, if◌then◌else◌, ℤ, ◌-ℤ◌, unsigned_abs, Option, Some, None}
 use Rattle.std.specs.List.{AllByRecursion}
 use Rattle.std.proofs.lemmas.Bool.{eqb-true}
 use Rattle.tcl_num.proofs.IntegerOrder.{unsigned_abs_zero}
 use Rattle.tcl_ring.specs.Reduction.{IsReduction, reduced_by, IsModulus}
 use Rattle.tcl_ring.proofs.Reductions.{is_reduction}
-use Rattle.tcl_poly.specs.Monomial.{Monomial, IsMonomial}
+use Rattle.tcl_poly.specs.Monomial.{Monomial}
 use Rattle.tcl_poly.specs.Polynomial.{Polynomial, IsPolynomial, coefficient, norm_of}
 use Rattle.tcl_poly.proofs.Canonical.{same_poly, coefficient_is}
-use Rattle.tcl_reduce.specs.Reduction.{Definition}
 use Rattle.tcl_reduce.specs.CofactorSum.{are_wide}
-use Rattle.tcl_reduce.specs.Row.{Pivot, Note, Rows, WideAt, leading, by_leading, with_note, rows_of, plain_rows}
+use Rattle.tcl_reduce.specs.Row.{Pivot, Note, Rows, WideAt, leading, by_leading, rows_of, plain_rows}
 use Rattle.tcl_reduce.specs.Multiple.{Multiple, add_multiple, multiples_of}
-use Rattle.tcl_reduce.specs.Membership.{Target, target_less, noted, target_by, Stage, noted_rows, stage_of, stage_by, Found, Cofactors, Spent, Open, first_note, is_nothing, found_by, found_of}
+use Rattle.tcl_reduce.specs.Membership.{Target, target_less, noted, target_by, Stage, noted_rows, stage_of, stage_by, Found, Cofactors, Spent, Open, first_note, is_nothing, found_by}
 use Rattle.tcl_reduce.specs.Span.{total, IsSpanned}
 use Rattle.tcl_pivots.specs.Apart.{AreApart}
 use Rattle.tcl_pivots.specs.RowLaws.{Lacks, AreSpanned, OpenIsApart}
@@ -23,8 +22,8 @@ use Rattle.tcl_pivots.proofs.Spanning.{span_chain, spans_chain, apart_chain, apa
 use Rattle.tcl_pivots.specs.Kept.{lead, IsPivot, AreKept}
 use Rattle.tcl_pivots.proofs.Pivots.{polys, kept_rows, all_pivots, all_sorted, from_sorted, AreDescending, sorted_descends, sorted_spanned}
 use Rattle.tcl_pivots.proofs.Clearing.{less_is, IsCleared, cleared_end, cleared_skip, cleared_wide, cleared_step}
-use Rattle.tcl_pivots.proofs.Adding.{IsGrown, IsAdded, apart_span, some_more}
-use Rattle.tcl_pivots.proofs.Trying.{IsGood, grown_spans, good_rows, rows_whole, remainders_to, count_remainders, ordered_spanned, IsMultiple, added_multiple}
+use Rattle.tcl_pivots.proofs.Adding.{IsGrown, apart_span, some_more}
+use Rattle.tcl_pivots.proofs.Trying.{grown_spans, good_rows, rows_whole, remainders_to, count_remainders, ordered_spanned, IsMultiple, added_multiple}
 use Rattle.tcl_pivots.proofs.Keys.{listed}
 
 clash : (b : Bool) → b ≡ true → b ≡ false → ⊥

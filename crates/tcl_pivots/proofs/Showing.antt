@@ -1,5 +1,5 @@
 -- Cofactors that the search finds show the claim.
-use Rattle.std.proofs.Common.{◌≡◌, ℕ, zero, suc, ◌+◌, ◌-◌, ◌<◌, ◌≤◌, refl, sym, ◌∙◌, ap, subst, arith, Bool, true, false, ◌||◌, leb, List, [], ◌∷◌, ◌++◌, map, length, ◌==◌, if◌then◌else◌, ℤ, pos, negsuc, ◌+ℤ◌, ◌*ℤ◌, neg_ℤ, unsigned_abs, Option, Some, None}
+use Rattle.std.proofs.Common.{◌≡◌, ℕ, zero, suc, ◌+◌, ◌-◌, ◌<◌, ◌≤◌, refl, sym, ◌∙◌, ap, subst, arith, Bool, true, false, ◌||◌, leb, List, [], ◌∷◌, length, ◌==◌, if◌then◌else◌, ℤ, pos, negsuc, ◌+ℤ◌, ◌*ℤ◌, neg_ℤ, unsigned_abs, Option}
 use Rattle.std.specs.Prelude.{slice_index_or, nat_le}
 use Rattle.std.specs.List.{AllByRecursion}
 use Rattle.std.proofs.lemmas.Int.{ints}
@@ -7,22 +7,22 @@ use Rattle.std.proofs.lemmas.Bool.Decides.{nat_tests}
 use Rattle.tcl_num.proofs.IntegerRing.{int_zero_add, int_add_zero, int_one_mul, int_neg_mul}
 use Rattle.tcl_ring.specs.Reduction.{IsReduction, reduced_by, IsModulus, is_wide}
 use Rattle.tcl_ring.proofs.Reductions.{is_reduction}
-use Rattle.tcl_poly.specs.Monomial.{Monomial, IsMonomial, times}
-use Rattle.tcl_poly.specs.Polynomial.{Polynomial, IsPolynomial, sum_of, scaled, weigh, coefficient, norm_of, degree_of, number_of, terms_of}
+use Rattle.tcl_poly.specs.Monomial.{Monomial}
+use Rattle.tcl_poly.specs.Polynomial.{Polynomial, IsPolynomial, scaled, weigh, coefficient, norm_of, degree_of, number_of}
 use Rattle.tcl_poly.proofs.Weights.{two_sums, right_sum, weigh_sum, weigh_scaled, weigh_front, reduced_weight}
 use Rattle.tcl_poly.proofs.Canonical.{number_is, same_alike}
 use Rattle.tcl_poly.proofs.Norms.{narrower}
 use Rattle.tcl_poly.proofs.TermLists.{terms_itself}
 use Rattle.tcl_poly.specs.Combination.{equation_at, combination_of, weight_of, AreOver, AreCofactors}
 use Rattle.tcl_poly.proofs.Combinations.{combination_is}
-use Rattle.tcl_reduce.specs.CofactorSum.{put_cofactor, sum_cofactors, scaled_cofactors, is_deep, are_wide}
+use Rattle.tcl_reduce.specs.CofactorSum.{put_cofactor, scaled_cofactors, is_deep, are_wide}
 use Rattle.tcl_reduce.specs.Reduction.{Definition, Reduced, reduced_of}
 use Rattle.tcl_reduce.specs.Reduction.Reduced.{Done, TooWide, TooLarge}
 use Rattle.tcl_reduce.specs.Remainder.{AreDefinitions, BeginsWith, IsRemainder}
 use Rattle.tcl_reduce.proofs.Remainders.{reductions_keep}
-use Rattle.tcl_reduce.specs.Row.{Row, Pivot, Note, Rows, WideAt, leading, by_leading, quotient_at, with_note, add_row, add_plain, rows_to, rows_of}
+use Rattle.tcl_reduce.specs.Row.{Pivot, Rows, WideAt, leading, by_leading, quotient_at, with_note, add_row, add_plain, rows_to, rows_of}
 use Rattle.tcl_reduce.specs.Multiple.{Multiple, multiplied, add_multiple, multiples_of}
-use Rattle.tcl_reduce.specs.Membership.{Target, target_less, noted, target_by, Stage, noted_rows, stage_of, stage_by, Found, Cofactors, Spent, Open, first_note, is_nothing, found_by, found_of}
+use Rattle.tcl_reduce.specs.Membership.{Target, target_less, noted, target_by, Stage, noted_rows, stage_of, stage_by, Found, Cofactors, Spent, Open, is_nothing, found_by}
 use Rattle.tcl_pivots.specs.RowLaws.{AreLow, CofactorsShow}
 use Rattle.tcl_pivots.proofs.Residues.{same_negation}
 use Rattle.tcl_pivots.proofs.Inverting.{on_if}

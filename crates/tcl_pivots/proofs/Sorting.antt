@@ -1,14 +1,14 @@
 -- The sorted rows with one more, which the order of their places shows.
-use Rattle.std.proofs.Common.{◌≡◌, ℕ, zero, suc, ◌+◌, ◌<◌, ◌≤◌, refl, sym, ◌∙◌, ap, subst, arith, List, [], ◌∷◌, ◌++◌, take, drop, length, map, get_or, ℤ, Ordering, Less, Equal, Greater}
+use Rattle.std.proofs.Common.{◌≡◌, ℕ, zero, suc, ◌+◌, ◌<◌, ◌≤◌, refl, sym, ◌∙◌, ap, arith, List, [], ◌∷◌, ◌++◌, take, drop, length, get_or, ℤ, Ordering, Less, Equal, Greater}
 use Rattle.std.specs.List.{AllByRecursion}
-use Rattle.std.proofs.lemmas.List.{map-append, get_or_append_left, get_or_at, length-append, take-append-drop}
+use Rattle.std.proofs.lemmas.List.{map-append, get_or_append_left, get_or_at, length-append}
 use Rattle.tcl_ring.specs.Reduction.{IsReduction}
 use Rattle.tcl_poly.specs.Monomial.{Monomial, IsMonomial, IsLess, order}
 use Rattle.tcl_poly.proofs.MonomialLaws.{order_says, OrderSays, order_less, order_greater, less_chain}
 use Rattle.tcl_reduce.specs.Row.{Pivot, insert_at, insert_pivot, by_leading}
-use Rattle.tcl_pivots.specs.Kept.{lead, IsPivot, LacksLead, AreKept}
+use Rattle.tcl_pivots.specs.Kept.{lead, IsPivot, AreKept}
 use Rattle.tcl_pivots.specs.Held.{no_pivot, pivots_at, AreSorted}
-use Rattle.tcl_pivots.proofs.Pivots.{AreOther, others, all_pivots, all_sorted, all_more}
+use Rattle.tcl_pivots.proofs.Pivots.{AreOther, others, all_pivots, all_sorted}
 
 -- ---- rows with different leading monomials may be put in in any order
 

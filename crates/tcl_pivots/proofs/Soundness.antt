@@ -1,13 +1,11 @@
 -- A step keeps rows sound, or is wide: what is too great to be held is always wide.
-use Rattle.std.proofs.Common.{◌≡◌, ℕ, zero, suc, ◌+◌, ◌*◌, ◌<◌, ◌≤◌, ◌^◌, refl, sym, ◌∙◌, ap, subst, arith, Bool, true, false, ◌||◌, List, [], ◌∷◌, length, ℤ, pos, neg_ℤ, unsigned_abs, Option, None, Some, Ordering, Less, Equal, Greater}
+use Rattle.std.proofs.Common.{◌≡◌, ℕ, zero, suc, ◌+◌, ◌*◌, ◌<◌, ◌≤◌, refl, sym, ◌∙◌, ap, subst, arith, Bool, true, false, ◌||◌, List, [], ◌∷◌, length, ℤ, neg_ℤ, unsigned_abs, Option, None, Some, Ordering, Less, Equal, Greater}
 use Rattle.std.specs.List.{AllByRecursion}
 use Rattle.std.specs.Ordering.{nat_cmp, MatchOrdering}
 use Rattle.std.proofs.lemmas.Cmp.{ranked}
-use Rattle.std.proofs.lemmas.Int.{ints}
 use Rattle.std.proofs.Math.Nat.{mul-le-mul_left}
 use Rattle.tcl_num.proofs.IntegerOrder.{unsigned_abs_zero}
 use Rattle.tcl_ring.specs.Reduction.{IsReduction, reduced_by, is_wide}
-use Rattle.tcl_poly.specs.Monomial.{Monomial}
 use Rattle.tcl_poly.specs.Polynomial.{Term, Polynomial, IsPolynomial, sum_of, scaled, weigh, norm_of, has_wide, terms_of}
 use Rattle.tcl_poly.specs.Combination.{equation_at, combination_of, weight_of, AreCofactors}
 use Rattle.tcl_poly.proofs.Canonical.{sum_is, scaled_is, same_alike}
@@ -15,11 +13,11 @@ use Rattle.tcl_poly.proofs.Norms.{narrower}
 use Rattle.tcl_poly.proofs.TermLists.{terms_itself}
 use Rattle.tcl_reduce.specs.CofactorSum.{front_cofactor, put_cofactor_at, put_cofactor, sum_cofactors, scaled_cofactors, is_deep, are_wide}
 use Rattle.tcl_pivots.specs.CofactorLists.{AreOrdered, any_wide}
-use Rattle.tcl_reduce.specs.Remainder.{RiseFrom, IsRemainder}
+use Rattle.tcl_reduce.specs.Remainder.{RiseFrom}
 use Rattle.tcl_reduce.specs.Row.{Row, Pivot, quotient_at, row_less}
 use Rattle.tcl_pivots.specs.RowState.{AreCounted, IsSound}
 use Rattle.tcl_pivots.proofs.Trying.{equation_over}
-use Rattle.tcl_pivots.proofs.Making.{heavy, combination_heavy, AreMade, IsRow, less_row}
+use Rattle.tcl_pivots.proofs.Making.{combination_heavy, AreMade, IsRow, less_row}
 use Rattle.tcl_pivots.proofs.Weighing.{made_combination, row_norm}
 use Rattle.tcl_pivots.proofs.Showing.{fit_made, made_fit, or_left, or_right}
 

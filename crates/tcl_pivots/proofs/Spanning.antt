@@ -2,7 +2,7 @@
 use Rattle.std.proofs.Common.{◌≡◌, refl, sym, ◌∙◌, ap, arith, List, [], ◌∷◌, ◌++◌, ℤ, pos, ◌+ℤ◌, ◌-ℤ◌, ◌*ℤ◌}
 use Rattle.std.specs.List.{AllByRecursion}
 use Rattle.std.proofs.lemmas.Int.{ints}
-use Rattle.tcl_num.proofs.IntegerRing.{int_mul_comm, int_mul_zero, int_zero_mul, int_one_mul, int_add_zero, int_zero_add, int_add_mul, int_mul_add, int_mul_assoc}
+use Rattle.tcl_num.proofs.IntegerRing.{int_mul_zero, int_zero_mul, int_one_mul, int_add_zero, int_zero_add, int_add_mul, int_mul_add, int_mul_assoc}
 use Rattle.tcl_ring.specs.Reduction.{IsReduction}
 use Rattle.tcl_poly.specs.Monomial.{Monomial}
 use Rattle.tcl_poly.specs.Polynomial.{Polynomial, coefficient}

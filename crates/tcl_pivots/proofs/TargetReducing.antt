@@ -1,5 +1,5 @@
 -- What is left of a claim, reduced by one kept row after the other.
-use Rattle.std.proofs.Common.{◌≡◌, ◌⊎◌, inl, inr, ℕ, ◌+◌, ◌<◌, ◌≤◌, ◌==◌, if◌then◌else◌, refl, sym, ◌∙◌, ap, subst, arith, Bool, true, false, List, [], ◌∷◌, length, drop, get_or, ◌*◌, ℤ, pos, ◌*ℤ◌, unsigned_abs, Option, Some, None}
+use Rattle.std.proofs.Common.{◌≡◌, ◌⊎◌, inl, inr, ℕ, ◌+◌, ◌<◌, ◌≤◌, ◌==◌, if◌then◌else◌, refl, sym, ◌∙◌, ap, subst, arith, Bool, true, false, List, ◌∷◌, length, drop, get_or, ◌*◌, ℤ, pos, ◌*ℤ◌, unsigned_abs, Option, Some, None}
 use Rattle.std.specs.List.{AllByRecursion}
 use Rattle.std.proofs.lemmas.Bool.{eqb-true}
 use Rattle.std.proofs.lemmas.Int.{unsigned_abs-mul}
@@ -14,13 +14,12 @@ use Rattle.tcl_reduce.specs.Row as rows
 use Rattle.tcl_reduce.specs.Membership.{Target, target_less, noted, target_by, noted_rows, stage_of}
 use Rattle.tcl_pivots.specs.declared.row.Pivot.{Pivot}
 use Rattle.tcl_pivots.specs.declared.row.Target as code
-use Rattle.tcl_pivots.specs.declared.target_reduction.TargetStep.{TargetStep}
-use Rattle.tcl_pivots.specs.RowState.{pivot_shown, IsSound}
+use Rattle.tcl_pivots.specs.RowState.{pivot_shown}
 use Rattle.tcl_pivots.specs.Kept.{lead, IsPivot}
 use Rattle.tcl_pivots.specs.declared.rows.Note.{Note}
 use Rattle.tcl_pivots.specs.Held.{Held, rows_shown, pivots_shown, pivots_at, AreSorted, AreHeld}
 use Rattle.tcl_pivots.specs.TargetState.{target_shown, IsSoundTarget}
-use Rattle.tcl_pivots.specs.Aim.{IsAimed, IsSettled, target_after}
+use Rattle.tcl_pivots.specs.Aim.{IsAimed, IsSettled}
 use Rattle.tcl_pivots.proofs.Quotients.{coefficient_within, unit_magnitude}
 use Rattle.tcl_pivots.proofs.Showing.{fit_made, or_right}
 use Rattle.tcl_pivots.proofs.Soundness.{clash, wider, or_second}

@@ -1,5 +1,5 @@
 -- A step on the claim keeps it sound, or is wide: what is too great to be held is always wide.
-use Rattle.std.proofs.Common.{◌≡◌, ℕ, ◌+◌, ◌*◌, ◌≤◌, ◌^◌, min, refl, sym, ◌∙◌, ap, arith, Bool, true, false, List, [], ◌∷◌, length, ℤ, pos, negsuc, ◌+ℤ◌, ◌*ℤ◌, neg_ℤ, Option, None, Some}
+use Rattle.std.proofs.Common.{◌≡◌, ℕ, ◌+◌, ◌≤◌, sym, ◌∙◌, ap, arith, true, false, List, [], length, ℤ, negsuc, ◌+ℤ◌, ◌*ℤ◌, neg_ℤ, Option, None, Some}
 use Rattle.std.specs.List.{AllByRecursion}
 use Rattle.tcl_ring.specs.Reduction.{IsReduction, reduced_by, is_wide}
 use Rattle.tcl_ring.proofs.Reductions.{is_reduction}
@@ -10,7 +10,7 @@ use Rattle.tcl_poly.proofs.Weights.{right_sum, weigh_sum, weigh_scaled}
 use Rattle.tcl_poly.proofs.Canonical.{sum_is, scaled_is, same_alike}
 use Rattle.tcl_poly.proofs.Norms.{norm_sum, norm_scaled}
 use Rattle.tcl_poly.proofs.Combinations.{combination_norm}
-use Rattle.tcl_reduce.specs.CofactorSum.{sum_cofactors, scaled_cofactors, is_deep, are_wide}
+use Rattle.tcl_reduce.specs.CofactorSum.{scaled_cofactors, is_deep, are_wide}
 use Rattle.tcl_pivots.specs.CofactorLists.{any_wide}
 use Rattle.tcl_reduce.specs.Row.{Pivot, quotient_at}
 use Rattle.tcl_reduce.specs.Membership.{Target, target_less}

@@ -1,5 +1,5 @@
 -- One step on the claim as the code makes it: its constants stand for those of the definition.
-use Rattle.std.proofs.Common.{◌≡◌, ℕ, ◌+◌, ◌^◌, min, refl, sym, ◌∙◌, ap, Bool, true, ◌||◌, List, [], ◌∷◌, ℤ, neg_ℤ, ◌*ℤ◌, Option}
+use Rattle.std.proofs.Common.{◌≡◌, ℕ, ◌+◌, ◌^◌, min, sym, ◌∙◌, ap, Bool, true, ◌||◌, List, [], ℤ, neg_ℤ, ◌*ℤ◌, Option}
 use Rattle.std.specs.List.{AllByRecursion}
 use Rattle.tcl_num.proofs.SaturatingCounts.{sum_saturates}
 use Rattle.tcl_ring.specs.Reduction.{IsReduction, reduced_by, is_wide}
@@ -12,7 +12,7 @@ use Rattle.tcl_reduce.specs.Row.{Pivot, quotient_at}
 use Rattle.tcl_reduce.specs.Membership.{Target, target_less}
 use Rattle.tcl_pivots.specs.RowState.{IsSound}
 use Rattle.tcl_pivots.specs.TargetState.{IsSoundTarget}
-use Rattle.tcl_pivots.proofs.Quotients.{scaled_alike, cofactors_alike}
+use Rattle.tcl_pivots.proofs.Quotients.{scaled_alike}
 use Rattle.tcl_pivots.proofs.TargetSteps.{target_poly_wide, target_cofactors_wide}
 
 -- a count matters up to the limit only

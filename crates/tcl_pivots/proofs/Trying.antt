@@ -1,14 +1,12 @@
 -- The rows of the equations, and the products, added one by one.
-use Rattle.std.proofs.Common.{◌≡◌, ◌⊎◌, inl, inr, ℕ, zero, suc, ◌+◌, ◌-◌, ◌<◌, ◌≤◌, refl, sym, ◌∙◌, ap, subst, arith, Bool, true, false, leb, List, [], ◌∷◌, ◌++◌, map, length, if◌then◌else◌, ℤ, pos, Option, Some, None, Ordering, Less, Equal, Greater}
-use Rattle.std.specs.Prelude.{slice_index_or, nat_le}
+use Rattle.std.proofs.Common.{◌≡◌, inl, inr, ℕ, zero, suc, ◌+◌, ◌-◌, refl, sym, ◌∙◌, ap, subst, arith, Bool, true, false, List, [], ◌∷◌, ◌++◌, length, ℤ, pos, Option}
+use Rattle.std.specs.Prelude.{slice_index_or}
 use Rattle.std.specs.List.{AllByRecursion}
-use Rattle.std.specs.Ordering.{nat_cmp}
-use Rattle.tcl_ring.specs.Reduction.{IsReduction, reduced_by, IsModulus, is_wide}
+use Rattle.tcl_ring.specs.Reduction.{IsReduction, reduced_by, IsModulus}
 use Rattle.tcl_ring.proofs.Reductions.{is_reduction}
-use Rattle.tcl_poly.specs.Monomial.{Monomial, IsMonomial, IsMonomialFrom}
-use Rattle.tcl_poly.specs.Polynomial.{Polynomial, IsPolynomial, coefficient, scaled, degree_of}
+use Rattle.tcl_poly.specs.Monomial.{IsMonomial}
+use Rattle.tcl_poly.specs.Polynomial.{Polynomial, IsPolynomial, coefficient}
 use Rattle.tcl_poly.proofs.Canonical.{scaled_is}
-use Rattle.tcl_poly.proofs.MonomialLaws.{weaker}
 use Rattle.tcl_poly.specs.Combination.{equation_at}
 use Rattle.tcl_reduce.specs.Parts.{top, coefficients}
 use Rattle.tcl_reduce.specs.Substitution.{bound_of}
@@ -16,17 +14,17 @@ use Rattle.tcl_reduce.specs.Reduction.{Definition, definition_at, Reduced, first
 use Rattle.tcl_reduce.specs.Reduction.Reduced.{Done, TooWide, TooLarge}
 use Rattle.tcl_reduce.specs.Remainder.{AreDefinitions}
 use Rattle.tcl_reduce.specs.CofactorSum.{are_wide}
-use Rattle.tcl_reduce.specs.Row.{Row, Pivot, Note, Rows, WideAt, with_note, row_of, plain_row, plain_rows_to, add_row, add_plain, rows_to, rows_of}
-use Rattle.tcl_reduce.specs.Multiple.{Multiple, multiplied, add_multiple, insert_key_at, insert_key, keys_of, unknowns_of, row_unknowns, with_power, powers_below, monomials_over, multiples_at, multiples_to, multiples_of}
+use Rattle.tcl_reduce.specs.Row.{Row, Pivot, Note, Rows, WideAt, with_note, plain_row, plain_rows_to, add_row, add_plain, rows_to, rows_of}
+use Rattle.tcl_reduce.specs.Multiple.{Multiple, multiplied, add_multiple}
 use Rattle.tcl_reduce.proofs.Substituting.{substituted_is}
 use Rattle.tcl_reduce.proofs.Remainders.{definition_over}
 use Rattle.tcl_reduce.specs.Span.{IsSpanned}
 use Rattle.tcl_pivots.specs.RowLaws.{AreSpanned, RowsSpan}
 use Rattle.tcl_pivots.specs.Tried.{polynomials_in, product_at}
 use Rattle.tcl_pivots.proofs.Inverting.{on_if}
-use Rattle.tcl_pivots.proofs.Spanning.{spans_later, spans_chain, spans_itself, span_first, all_join, span_front, spans_front}
+use Rattle.tcl_pivots.proofs.Spanning.{spans_later, spans_chain, spans_itself, span_first, all_join, spans_front}
 use Rattle.tcl_pivots.specs.Kept.{IsPivot, AreKept}
-use Rattle.tcl_pivots.proofs.Pivots.{polys, all_pivots}
+use Rattle.tcl_pivots.proofs.Pivots.{polys}
 use Rattle.tcl_pivots.proofs.Adding.{IsGrown, IsAdded, added_note, added_row, polys_more, some_more}
 
 -- ---- the remainders, the last one first

@@ -1,16 +1,15 @@
 -- A combination of rows that has none of their leading monomials is zero: the first leading monomial occurs in no other
 -- row, so the first constant is 0.
-use Rattle.std.proofs.Common.{◌≡◌, refl, sym, ◌∙◌, ap, List, [], ◌∷◌, ℤ, pos, ◌+ℤ◌, ◌*ℤ◌, Option}
+use Rattle.std.proofs.Common.{◌≡◌, refl, sym, ◌∙◌, ap, List, [], ◌∷◌, ℤ, pos, ◌+ℤ◌, ◌*ℤ◌}
 use Rattle.std.specs.List.{AllByRecursion}
 use Rattle.tcl_num.proofs.IntegerRing.{int_mul_comm}
 use Rattle.tcl_ring.specs.Reduction.{IsReduction, reduced_by}
 use Rattle.tcl_ring.proofs.Reductions.{is_reduction}
 use Rattle.tcl_poly.specs.Monomial.{Monomial}
 use Rattle.tcl_poly.specs.Polynomial.{Polynomial, coefficient}
-use Rattle.tcl_poly.proofs.Weights.{two_sums}
 use Rattle.tcl_reduce.specs.Row.{leading}
 use Rattle.tcl_reduce.specs.Span.{total}
-use Rattle.tcl_pivots.specs.RowLaws.{HasInverse, Lacks, AreRows, RowsVanish}
+use Rattle.tcl_pivots.specs.RowLaws.{Lacks, AreRows, RowsVanish}
 use Rattle.tcl_pivots.proofs.Residues.{zero_multiple, less_zero, plus_zero, cancelled}
 
 -- a monomial that occurs in none of the polynomials occurs in no combination

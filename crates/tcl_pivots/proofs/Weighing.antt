@@ -1,18 +1,17 @@
 -- Over the integers the norm of a row is at most the sum of the products of its cofactors' and their equations' norms, and
 -- so is the norm of each cofactor: a step that makes a coefficient too great is wide.
-use Rattle.std.proofs.Common.{◌≡◌, ℕ, suc, ◌+◌, ◌*◌, ◌<◌, ◌≤◌, refl, sym, ◌∙◌, ap, subst, arith, List, [], ◌∷◌, length, ℤ, pos, Option, None}
+use Rattle.std.proofs.Common.{ℕ, ◌≤◌, sym, ◌∙◌, subst, List, [], ◌∷◌, length, ℤ, None}
 use Rattle.std.specs.List.{AllByRecursion}
-use Rattle.std.proofs.Math.Nat.{mul-le-mul_left}
 use Rattle.tcl_ring.specs.Reduction.{IsReduction, reduced_by}
 use Rattle.tcl_ring.proofs.Reductions.{is_reduction}
-use Rattle.tcl_poly.specs.Polynomial.{Polynomial, IsPolynomial, terms_of, sum_of, product_of, norm_of}
+use Rattle.tcl_poly.specs.Polynomial.{Polynomial, IsPolynomial, terms_of, product_of, norm_of}
 use Rattle.tcl_poly.proofs.Canonical.{sum_is, product_is, same_alike}
 use Rattle.tcl_poly.proofs.TermLists.{terms_itself}
 use Rattle.tcl_poly.specs.Combination.{equation_at, combination_of, weight_of}
 use Rattle.tcl_poly.proofs.Combinations.{combination_norm}
 use Rattle.tcl_reduce.specs.Row.{Row}
 use Rattle.tcl_pivots.proofs.Trying.{equation_over}
-use Rattle.tcl_pivots.proofs.Making.{heavy, combination_heavy, AreMade, IsRow}
+use Rattle.tcl_pivots.proofs.Making.{combination_heavy, AreMade, IsRow}
 
 pub made_combination : (r : ℤ → ℤ) → IsReduction r → (es : List Polynomial) (cs : List (ℕ × Polynomial)) → AllByRecursion (IsPolynomial r) es → AreMade r (length es) cs → IsPolynomial r (combination_of r (λ n. n) es cs)
 made_combination r ring es [] h i = tt

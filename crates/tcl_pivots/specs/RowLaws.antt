@@ -7,9 +7,9 @@ use Rattle.tcl_poly.specs.Polynomial.{Polynomial, IsPolynomial, coefficient, deg
 use Rattle.tcl_poly.specs.Combination.{combination_of, AreCofactors, weight_of}
 use Rattle.tcl_reduce.specs.Reduction.{Definition, Reduced, reduced_of}
 use Rattle.tcl_reduce.specs.Remainder.{AreDefinitions, BeginsWith}
-use Rattle.tcl_reduce.specs.Row.{Pivot, leading, rows_of, plain_rows}
+use Rattle.tcl_reduce.specs.Row.{leading, rows_of, plain_rows}
 use Rattle.tcl_reduce.specs.Membership.{Open, Cofactors, found_of}
-use Rattle.tcl_reduce.specs.Span.{total, IsSpanned, IsCombination}
+use Rattle.tcl_reduce.specs.Span.{total, IsCombination}
 use Rattle.tcl_pivots.specs.Tried.{polynomials_of, polynomials_in, tried_for}
 
 -- the leading coefficient has an inverse in the ring

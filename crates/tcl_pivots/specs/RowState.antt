@@ -1,5 +1,5 @@
 -- Rows of the code with their coefficients' values, and what is known of them.
-use Rattle.std.specs.Prelude.{◌≡◌, ℕ, List, [], ◌∷◌, ℤ, Option, None, Some}
+use Rattle.std.specs.Prelude.{◌≡◌, ℕ, List, [], ℤ, Option, None, Some}
 use Rattle.std.specs.List.{AllByRecursion}
 use Rattle.tcl_ring.specs.Reduction.{reduced_by}
 use Rattle.tcl_poly.specs.Polynomial.{Polynomial, IsPolynomial, terms_of}

@@ -1,7 +1,6 @@
 -- The terms are halved.
-use Rattle.std.proofs.Common.{◌≡◌, ℕ, ◌+◌, ◌-◌, ◌/◌, ◌<◌, ◌≤◌, pos, length, sym, ◌∙◌, ap, subst, arith, List}
+use Rattle.std.proofs.Common.{◌+◌, ◌-◌, ◌/◌, ◌<◌, length, sym, ◌∙◌, ap, arith}
 use Rattle.tcl_ring.specs.Reduction as r
-use Rattle.tcl_poly.specs.Monomial.{Monomial}
 use Rattle.tcl_poly.specs.Polynomial as p
 use Rattle.tcl_pivots.proofs.Coefficients.{more_greater, more_less, absent, read_coefficient, over_list}
 use Rattle.tcl_pivots.proofs.coefficient.coefficient_of.Goals as goal

@@ -1,5 +1,5 @@
 -- Each turn takes the cofactor with the least number of what is left.
-use Rattle.std.proofs.Common.{rules, ◌≡◌, ◌+◌, ◌≤◌, ◌<◌, [], ◌++◌, length, drop, refl, sym, ◌∙◌, ap, arith, true, false, Less, Equal, Greater}
+use Rattle.std.proofs.Common.{rules, ◌≡◌, ◌+◌, [], drop, refl, ap, arith, true}
 use Rattle.tcl_ring.specs.Reduction as r
 use Rattle.tcl_ring.proofs.Reductions.{is_reduction}
 use Rattle.tcl_poly.specs.Polynomial as p

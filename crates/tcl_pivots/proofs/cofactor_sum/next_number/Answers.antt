@@ -1,5 +1,5 @@
 -- A list that has ended has the greater number.
-use Rattle.std.proofs.Common.{ℕ, ◌≤◌, ◌<◌, length, arith}
+use Rattle.std.proofs.Common.{arith}
 use Rattle.tcl_pivots.proofs.CofactorTurns.{second_ended}
 use Rattle.tcl_pivots.proofs.cofactor_sum.next_number.Goals as goal
 

@@ -1,5 +1,5 @@
 -- Each turn passes a row whose leading monomial is not less.
-use Rattle.std.proofs.Common.{◌≡◌, ◌+◌, ◌<◌, ◌≤◌, length, get_or, refl, sym, ◌∙◌, ap, arith, Less, Equal, Greater}
+use Rattle.std.proofs.Common.{◌<◌, length, get_or, arith, Less, Equal}
 use Rattle.std.proofs.lemmas.List.{get_or_default}
 use Rattle.tcl_pivots.specs.Held.{pivots_shown}
 use Rattle.tcl_pivots.proofs.HeldRows.{all_at}

@@ -1,5 +1,5 @@
 -- The quotient of a step fits.
-use Rattle.std.proofs.Common.{◌≡◌, false, sym, ◌∙◌, ap, subst, ◌*ℤ◌, unsigned_abs, ℤ, Option, Some}
+use Rattle.std.proofs.Common.{◌∙◌, ap, ◌*ℤ◌, unsigned_abs}
 use Rattle.tcl_ring.specs.Reduction as r
 use Rattle.tcl_pivots.specs.CofactorLists.{equations_of}
 use Rattle.tcl_pivots.specs.RowState.{row_shown, pivot_shown}

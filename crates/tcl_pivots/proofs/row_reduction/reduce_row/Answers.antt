@@ -1,9 +1,9 @@
 -- Each turn reduces by the row at the next place.
-use Rattle.std.proofs.Common.{◌≡◌, ◌∷◌, ◌+◌, ◌<◌, ◌≤◌, length, drop, get_or, refl, sym, ◌∙◌, ap, arith, Some, None}
+use Rattle.std.proofs.Common.{◌+◌, drop, get_or, sym, ap, arith, Some, None}
 use Rattle.std.proofs.lemmas.List.{get_or_default}
 use Rattle.tcl_reduce.specs.Row as rows
 use Rattle.tcl_pivots.specs.CofactorLists.{equations_of}
-use Rattle.tcl_pivots.specs.RowState.{row_shown, pivot_shown, reduced_further}
+use Rattle.tcl_pivots.specs.RowState.{row_shown}
 use Rattle.tcl_pivots.specs.Held.{pivots_shown, pivots_at}
 use Rattle.tcl_pivots.proofs.HeldRows.{place_below, sound_at, pivot_at, row_turn, row_end, rows_whole}
 use Rattle.tcl_pivots.proofs.row_reduction.reduce_row.Goals as goal

@@ -1,5 +1,5 @@
 -- The cofactors of the sum have equations.
-use Rattle.std.proofs.Common.{◌≡◌, [], length}
+use Rattle.std.proofs.Common.{[], length}
 use Rattle.tcl_ring.specs.Reduction as r
 use Rattle.tcl_pivots.proofs.MadeCofactors.{made_below, below_same}
 use Rattle.tcl_pivots.proofs.row_step.make.Goals as goal

@@ -1,10 +1,8 @@
 -- The constant stands for the opposite of the quotient, and what cannot be held is wide.
-use Rattle.std.proofs.Common.{◌≡◌, ℕ, ◌^◌, [], length, min, true, false, refl, sym, ◌∙◌, ap, subst, ◌*ℤ◌, neg_ℤ, Option, Some, None}
-use Rattle.std.specs.Prelude.{MatchOption}
+use Rattle.std.proofs.Common.{length, true, false, refl, sym, ap, subst}
 use Rattle.tcl_ring.specs.Reduction as r
 use Rattle.tcl_ring.proofs.Reductions.{is_reduction}
 use Rattle.tcl_poly.specs.Polynomial as p
-use Rattle.tcl_reduce.specs.CofactorSum as s
 use Rattle.tcl_pivots.specs.CofactorLists.{equations_of}
 use Rattle.tcl_reduce.specs.Row.{leading}
 use Rattle.tcl_reduce.specs.Row as rows

@@ -1,5 +1,5 @@
 -- Each turn takes the row at the next place.
-use Rattle.std.proofs.Common.{◌≡◌, ◌∷◌, ◌+◌, ◌<◌, ◌≤◌, length, drop, get_or, sym, ◌∙◌, ap, arith, true, false}
+use Rattle.std.proofs.Common.{◌+◌, drop, get_or, arith, true, false}
 use Rattle.std.proofs.lemmas.List.{get_or_default}
 use Rattle.tcl_poly.specs.Polynomial as p
 use Rattle.tcl_reduce.specs.Row as rows

@@ -1,5 +1,5 @@
 -- The reduction by the rows from place i on goes on to that by all.
-use Rattle.std.proofs.Common.{◌≡◌, ◌-◌, ◌≤◌, length, drop, true, false}
+use Rattle.std.proofs.Common.{◌≡◌, ◌-◌, ◌≤◌, length, drop, false}
 use Rattle.tcl_poly.specs.Polynomial as p
 use Rattle.tcl_reduce.specs.Row as rows
 use Rattle.tcl_reduce.specs.Membership as s

@@ -1,5 +1,5 @@
 -- Where the claim itself is not too great, the quotient fits.
-use Rattle.std.proofs.Common.{◌≡◌, false, sym, ◌∙◌, ap, ◌*ℤ◌, unsigned_abs}
+use Rattle.std.proofs.Common.{false, sym, ◌∙◌, ap, ◌*ℤ◌, unsigned_abs}
 use Rattle.tcl_ring.specs.Reduction as r
 use Rattle.tcl_poly.specs.Polynomial as p
 use Rattle.tcl_pivots.specs.CofactorLists.{equations_of}

@@ -1,5 +1,5 @@
 -- The constants stand for the quotient and its opposite, and what cannot be held is wide.
-use Rattle.std.proofs.Common.{◌≡◌, ℕ, ◌^◌, [], length, min, true, false, refl, sym, ◌∙◌, ap, subst, ◌*ℤ◌, neg_ℤ, Option, Some, None}
+use Rattle.std.proofs.Common.{◌^◌, length, min, true, false, sym, ◌∙◌, ap, subst}
 use Rattle.tcl_ring.specs.Reduction as r
 use Rattle.tcl_ring.proofs.Reductions.{is_reduction}
 use Rattle.tcl_poly.specs.Polynomial as p

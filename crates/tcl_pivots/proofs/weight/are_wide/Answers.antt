@@ -1,5 +1,5 @@
 -- The norm and the weight, each up to the limit, tell what their sum tells.
-use Rattle.std.proofs.Common.{◌≡◌, ℕ, ◌+◌, ◌^◌, min, false, ◌||◌, sym, ◌∙◌, ap}
+use Rattle.std.proofs.Common.{◌≡◌, ◌+◌, ◌^◌, min, false, ◌||◌, sym, ◌∙◌, ap}
 use Rattle.tcl_num.proofs.SaturatingCounts.{sum_saturates}
 use Rattle.tcl_ring.specs.Reduction as r
 use Rattle.tcl_poly.specs.Combination.{weight_of}

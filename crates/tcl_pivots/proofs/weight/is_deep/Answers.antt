@@ -1,5 +1,5 @@
 -- One cofactor more.
-use Rattle.std.proofs.Common.{◌≡◌, ℕ, ◌+◌, ◌-◌, ◌<◌, ◌≤◌, Bool, true, ◌||◌, length, drop, sym, ◌∙◌, ap, arith}
+use Rattle.std.proofs.Common.{◌≡◌, ◌+◌, ◌-◌, ◌<◌, true, ◌||◌, length, drop, sym, ◌∙◌, ap, arith}
 use Rattle.tcl_poly.proofs.Combinations.{read_equation}
 use Rattle.tcl_reduce.specs.CofactorSum.{is_deep}
 use Rattle.tcl_pivots.specs.CofactorLists.{equations_of}

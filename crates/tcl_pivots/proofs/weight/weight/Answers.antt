@@ -1,5 +1,5 @@
 -- One cofactor more.
-use Rattle.std.proofs.Common.{◌≡◌, ℕ, suc, ◌+◌, ◌*◌, ◌-◌, ◌<◌, ◌≤◌, ◌^◌, length, drop, min, sym, ◌∙◌, ap, arith}
+use Rattle.std.proofs.Common.{◌≡◌, suc, ◌-◌, ◌<◌, ◌^◌, length, drop, min, ◌∙◌, ap, arith}
 use Rattle.tcl_poly.specs.Polynomial as p
 use Rattle.tcl_poly.specs.Combination.{weight_of}
 use Rattle.tcl_poly.proofs.Combinations.{read_equation, turn_weight}

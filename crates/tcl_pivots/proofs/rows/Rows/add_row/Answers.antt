@@ -1,5 +1,5 @@
 -- What is left of a row has none of the leading monomials, and what is held is known again.
-use Rattle.std.proofs.Common.{◌≡◌, sym, ◌∙◌, ap, Some}
+use Rattle.std.proofs.Common.{sym, ◌∙◌, ap, Some}
 use Rattle.tcl_reduce.specs.Row as s
 use Rattle.tcl_pivots.specs.CofactorLists.{equations_of}
 use Rattle.tcl_pivots.specs.RowState.{row_shown}

@@ -1,5 +1,5 @@
 -- The row is kept, left out with a note, or dropped.
-use Rattle.std.proofs.Common.{◌≡◌, [], ◌∷◌, sym, ◌∙◌, ap}
+use Rattle.std.proofs.Common.{sym, ◌∙◌, ap}
 use Rattle.tcl_ring.specs.Reduction as r
 use Rattle.tcl_reduce.specs.Row as s
 use Rattle.tcl_pivots.specs.RowState.{row_shown}
