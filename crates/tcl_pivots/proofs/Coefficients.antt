@@ -7,12 +7,10 @@ use Rattle.tcl_poly.specs.Monomial.{Monomial, IsMonomial, IsLess, order}
 use Rattle.tcl_poly.specs.Polynomial.{Polynomial, IsUnder, IsPolynomial, terms_of, coefficient, one_at}
 use Rattle.tcl_poly.proofs.MonomialLaws.{less_chain, order_same, order_less, order_greater}
 use Rattle.tcl_poly.proofs.TermMerging.{less_from, greater_from}
+use Rattle.tcl_pivots.specs.Lookup.{AreGreater}
 use Rattle.tcl_poly.proofs.Canonical.{under_chain, no_coefficient, first_coefficient}
 
--- the monomials before place k are greater, and those from k on are less
-abbrev pub AreGreater : {E : Type 0} → List (Monomial × E) → Monomial → ℕ → Type 0
-AreGreater {E = E} p m k = (j : ℕ) → j < k → (d : Monomial × E) → order (get_or p j d).0 m ≡ Greater
-
+-- the monomials from place k on are less
 abbrev pub AreLess : {E : Type 0} → List (Monomial × E) → Monomial → ℕ → Type 0
 AreLess {E = E} p m k = (j : ℕ) → k ≤ j → j < length p → (d : Monomial × E) → order (get_or p j d).0 m ≡ Less
 
@@ -22,14 +20,14 @@ under_at value n [] k d h i = absurd (omega (arith, h))
 under_at value n (t ∷ p) zero d h i = i.0
 under_at value n (t ∷ p) (suc k) d h i = under_at value n p k d (omega (arith, h)) i.1
 
-later : {E : Type 0} (r : ℤ → ℤ) (value : E → ℤ) (p : List (Monomial × E)) (j k : ℕ) (d : Monomial × E) → j < k → k < length p → IsPolynomial r (terms_of value p) → IsLess (get_or p k d).0 (get_or p j d).0
+pub later : {E : Type 0} (r : ℤ → ℤ) (value : E → ℤ) (p : List (Monomial × E)) (j k : ℕ) (d : Monomial × E) → j < k → k < length p → IsPolynomial r (terms_of value p) → IsLess (get_or p k d).0 (get_or p j d).0
 later r value [] j k d h l i = absurd (omega (arith, l))
 later r value (t ∷ p) zero zero d h l i = absurd (omega (arith, h))
 later r value (t ∷ p) zero (suc k) d h l i = under_at value t.0 p k d (omega (arith, l)) i.3
 later r value (t ∷ p) (suc j) zero d h l i = absurd (omega (arith, h))
 later r value (t ∷ p) (suc j) (suc k) d h l i = later r value p j k d (omega (arith, h)) (omega (arith, l)) i.4
 
-monomial_at : {E : Type 0} (r : ℤ → ℤ) (value : E → ℤ) (p : List (Monomial × E)) (k : ℕ) (d : Monomial × E) → k < length p → IsPolynomial r (terms_of value p) → IsMonomial (get_or p k d).0
+pub monomial_at : {E : Type 0} (r : ℤ → ℤ) (value : E → ℤ) (p : List (Monomial × E)) (k : ℕ) (d : Monomial × E) → k < length p → IsPolynomial r (terms_of value p) → IsMonomial (get_or p k d).0
 monomial_at r value [] k d h i = absurd (omega (arith, h))
 monomial_at r value (t ∷ p) zero d h i = i.0
 monomial_at r value (t ∷ p) (suc k) d h i = monomial_at r value p k d (omega (arith, h)) i.4
@@ -40,7 +38,7 @@ same_place (t ∷ p) zero s d h = refl
 same_place (t ∷ p) (suc k) s d h = same_place p k s d (omega (arith, h))
 
 -- what holds below k and at k
-by_place : (P : ℕ → Type 0) (j k : ℕ) → (j < k → P j) → (j ≡ k → P j) → (k < j → P j) → P j
+pub by_place : (P : ℕ → Type 0) (j k : ℕ) → (j < k → P j) → (j ≡ k → P j) → (k < j → P j) → P j
 by_place P j k f g h = at (nat_cmp j k) (ranked j k (nat_cmp j k) refl) where
   at : (o : Ordering) → MatchOrdering o (j < k) (j ≡ k) (k < j) → P j
   at Less s = f s

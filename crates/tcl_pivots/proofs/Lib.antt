@@ -26,3 +26,4 @@ pub mod Sorting
 pub mod AddedRows
 pub mod TargetReducing
 mod SearchExamples
+pub mod Passing

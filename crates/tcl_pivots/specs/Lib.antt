@@ -7,3 +7,4 @@ pub mod Kept
 pub mod TargetState
 pub mod Held
 pub mod Aim
+pub mod Lookup

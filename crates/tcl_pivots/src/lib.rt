@@ -4,6 +4,7 @@
 mod coefficient;
 mod cofactor_sum;
 mod laws;
+mod lookup;
 mod row;
 mod row_addition;
 mod row_reduction;

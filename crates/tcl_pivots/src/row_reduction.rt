@@ -12,6 +12,7 @@ ghost use Rattle.tcl_pivots.specs.Held.{pivots_shown, shown_where, AreSound, Are
 ghost use Rattle.tcl_pivots.specs.Kept.{IsPivot};
 
 use crate::coefficient::coefficient_of;
+use crate::lookup::seek;
 use crate::row_step::row_less;
 use crate::{Pivot, Row};
 use std::alloc::{AllocError, Global};
@@ -75,14 +76,16 @@ pub(crate) fn reduce_row<R: Ring>(
     ensures sound { IfOk result (λ o. MatchOption o (Unit {0}) (λ b. IsSound (R.modulus_of ring.now) (equations_of (R.amount ring.now) equations.now) (row_shown (R.amount ring.now) b))) }
 {
     let mut a = a;
-    let mut i = 0;
+    let start = seek(ring, &a.poly, kept, order, 0);
+    let mut i = start;
     while i < order.len() {
         let pivot: &Pivot<R> = &kept[order[i]];
         match reduce_by_pivot(alloc, ring, equations, a, pivot)? {
             Some(next) => a = next,
             None => return Ok(None),
         }
-        i += 1;
+        let following = seek(ring, &a.poly, kept, order, i + 1);
+        i = following;
     }
     Ok(Some(a))
 }

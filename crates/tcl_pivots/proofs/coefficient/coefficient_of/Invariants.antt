@@ -1,6 +1,7 @@
 -- The monomials before `low` are greater, and those from `high` on are less.
 use Rattle.std.proofs.Common.{◌≤◌, ◌-◌, length}
-use Rattle.tcl_pivots.proofs.Coefficients.{AreGreater, AreLess}
+use Rattle.tcl_pivots.specs.Lookup.{AreGreater}
+use Rattle.tcl_pivots.proofs.Coefficients.{AreLess}
 use Rattle.tcl_pivots.proofs.coefficient.coefficient_of.Given as goal
 
 abbrev pub invariant-loop-low : goal.invariant-loop-low

@@ -1,11 +1,12 @@
 -- Each turn reduces by the row at the next place.
-use Rattle.std.proofs.Common.{◌+◌, drop, get_or, sym, ap, arith, Some, None}
+use Rattle.std.proofs.Common.{◌+◌, drop, get_or, sym, ap, arith, Some, None, ◌∙◌}
 use Rattle.std.proofs.lemmas.List.{get_or_default}
 use Rattle.tcl_reduce.specs.Row as rows
 use Rattle.tcl_pivots.specs.CofactorLists.{equations_of}
 use Rattle.tcl_pivots.specs.RowState.{row_shown}
 use Rattle.tcl_pivots.specs.Held.{pivots_shown, pivots_at}
 use Rattle.tcl_pivots.proofs.HeldRows.{place_below, sound_at, pivot_at, row_turn, row_end, rows_whole}
+use Rattle.tcl_pivots.proofs.Passing.{row_skip}
 use Rattle.tcl_pivots.proofs.row_reduction.reduce_row.Goals as goal
 
 pub loop-i-init : goal.loop-i-init
@@ -13,9 +14,10 @@ loop-i-init g c =
     let m = g.R.Ring.modulus_of c.args.ring.now in let value = g.R.Ring.amount c.args.ring.now in
     let es = equations_of value c.args.equations.now in
     let ps = pivots_shown value c.args.kept.now in (
-      omega arith,
+      c.seek-start.ensures.last,
       c.requires.row,
-      ap (λ qs. rows.row_by m es qs (row_shown value c.args.a)) (rows_whole ps c.args.order.now c.requires.sorted),
+      sym (row_skip m es ps c.args.order.now (row_shown value c.args.a) 0 c.seek-start.result c.seek-start.ensures.first c.seek-start.ensures.last c.seek-start.ensures.absent)
+          ∙ ap (λ qs. rows.row_by m es qs (row_shown value c.args.a)) (rows_whole ps c.args.order.now c.requires.sorted),
     )
 
 pub bounds-kept-order : goal.bounds-kept-order
@@ -64,9 +66,10 @@ loop-i-preserved g c =
     let rest = pivots_at ps (drop (i + 1) order) in
     let further = rw c.in-Some.is at (c.in_ok-next.ensures.further rest) in
     let sound = rw c.in-Some.is at c.in_ok-next.ensures.sound in (
-      omega (arith, c.loop-i-test.true),
+      c.seek-following.ensures.last,
       sound,
-      row_turn m es value c.args.kept.now order i k c.index-kept-order.result (row_shown value c.loop-i.a) (Some c.in-Some.next) (rows.row_by m es (rows.by_leading ps) (row_shown value c.args.a)) e c.loop-i-test.true c.index-kept-order.is below further c.loop-i.invariant.2,
+      sym (row_skip m es ps order (row_shown value c.in-Some.next) (i + 1) c.seek-following.result c.seek-following.ensures.first c.seek-following.ensures.last c.seek-following.ensures.absent)
+          ∙ row_turn m es value c.args.kept.now order i k c.index-kept-order.result (row_shown value c.loop-i.a) (Some c.in-Some.next) (rows.row_by m es (rows.by_leading ps) (row_shown value c.args.a)) e c.loop-i-test.true c.index-kept-order.is below further c.loop-i.invariant.2,
     )
 
 pub returns-clause-reduced : goal.returns-clause-reduced
