@@ -79,7 +79,7 @@ last_above test k e = if_yes (test k) (Some k) (last_below test k) e
 pub last_here : (test : ℕ → Bool) (k : ℕ) → test k ≡ true → last_below test (k + 1) ≡ Some k
 last_here test k e = subst (λ n. last_below test n ≡ Some k) (next_is k) (last_above test k e)
 
-last_under : (test : ℕ → Bool) (k : ℕ) → test k ≡ false → last_below test (suc k) ≡ last_below test k
+pub last_under : (test : ℕ → Bool) (k : ℕ) → test k ≡ false → last_below test (suc k) ≡ last_below test k
 unfolding last_below
 last_under test k e = if_no (test k) (Some k) (last_below test k) e
 

@@ -11,4 +11,6 @@ pub mod Gifts
 pub mod Giving
 pub mod Closing
 pub mod Knowing
+pub mod Indexing
+pub mod Opening
 pub mod Ending

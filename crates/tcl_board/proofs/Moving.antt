@@ -27,7 +27,7 @@ pub number_is : (o : Option ℕ) (q : ℕ) → is_number o q ≡ true → o ≡ 
 number_is (Some k) q e = ap Some (eqb-true k q e)
 number_is None q e = absurd (cc)
 
-held_is : (w : ℕ) (o : Option Status) → is_held_by w o ≡ true → o ≡ Some (status.Held w)
+pub held_is : (w : ℕ) (o : Option Status) → is_held_by w o ≡ true → o ≡ Some (status.Held w)
 held_is w (Some (status.Held v)) e = ap (λ u. Some (status.Held u)) (eqb-true v w e)
 held_is w (Some status.Unclaimed) e = absurd (cc)
 held_is w (Some (status.Proved n)) e = absurd (cc)

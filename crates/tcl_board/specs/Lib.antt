@@ -13,3 +13,4 @@ pub mod Judging
 pub mod Told
 pub mod Finished
 pub mod FactLaws
+pub mod Index

@@ -18,6 +18,7 @@ use crate::event::{Event, LemmaMark, Status};
 use crate::evidence::{Evidence, Outcome};
 use crate::judging::count_goals;
 use crate::reserve::Reserve;
+use crate::span::{Span, spans_of};
 use std::alloc::{AllocError, Global};
 use std::marker::Model;
 use tcl_goals::{
@@ -41,6 +42,9 @@ pub struct Board<E: Evidence> {
     breaks: Listing<Option<u32>>,
     lemmas: Reserve<LemmaMark>,
     kept: Reserve<Outcome<E>>,
+    spans: Listing<Span>,
+    next: usize,
+    holders: Listing<Option<u32>>,
 }
 
 impl<E: Evidence> Model for Board<E> {
@@ -60,13 +64,15 @@ impl<E: Evidence> Model for Board<E> {
     ghost use Rattle.tcl_board.specs.Rooms.{event_room, kept_room};
     ghost use Rattle.tcl_board.specs.Judging.{OutcomeSpeaks};
     ghost use Rattle.tcl_board.specs.Kept.{IsBoard};
+    ghost use Rattle.tcl_board.specs.Index.{IsIndex};
 
     ghost view = { λ b. state_of b.ssa b.plan b.budget b.events.0 b.pieces b.statuses b.admitted b.breaks b.lemmas.0 (length b.kept.0) (map (seen_of E.shows E.cited) b.kept.0) };
 
     ghost invariant = { λ b. IsBoard E.causes (state_of b.ssa b.plan b.budget b.events.0 b.pieces b.statuses b.admitted b.breaks b.lemmas.0 (length b.kept.0) (map (seen_of E.shows E.cited) b.kept.0))
         × (b.events.1 ≡ event_room (length b.plan) (goal_count b.ssa.lines))
         × (b.kept.1 ≡ kept_room (length b.plan)) × (b.lemmas.1 ≡ 512)
-        × All (OutcomeSpeaks b.ssa E.program E.alone) b.kept.0 };
+        × All (OutcomeSpeaks b.ssa E.program E.alone) b.kept.0
+        × IsIndex (state_of b.ssa b.plan b.budget b.events.0 b.pieces b.statuses b.admitted b.breaks b.lemmas.0 (length b.kept.0) (map (seen_of E.shows E.cited) b.kept.0)).position b.spans b.next b.holders };
 }
 
 /// Whether there are few goals and few pieces.
@@ -131,6 +137,8 @@ impl<E: Evidence> Board<E> {
         let statuses = unclaimed(alloc, plan.len())?;
         let admitted = unset(alloc, goals)?;
         let breaks = unbroken(alloc, goals)?;
+        let spans = spans_of(alloc, plan.as_slice(), goals)?;
+        let holders = unbroken(alloc, 64)?;
         Ok(Board {
             ssa,
             plan,
@@ -142,6 +150,9 @@ impl<E: Evidence> Board<E> {
             breaks,
             lemmas,
             kept,
+            spans,
+            next: 0,
+            holders,
         })
     }
 

@@ -7,6 +7,7 @@ ghost use Rattle.tcl_board.specs.Own as own;
 ghost use Rattle.tcl_board.specs.Judging as judging;
 ghost use Rattle.tcl_board.specs.Sight.{seen_of};
 ghost use Rattle.tcl_board.specs.Moves as words;
+ghost use Rattle.tcl_board.specs.Index as index;
 
 use crate::event::{Judged, LemmaMark, Status, Submitted, Word};
 use crate::evidence::{Evidence, Outcome};
@@ -297,6 +298,17 @@ pub(crate) fn is_dropped(piece: &Piece, breaks: &[Option<u32>], word: Word) -> b
     ensures { result ≡ (words.breaks_own (Some piece.now) word && words.breaks_again breaks.now word) }
 {
     breaks_own(piece, word) && breaks_again(breaks, word)
+}
+
+/// Takes the worker from its piece, unless it gave a lemma.
+pub(crate) fn leave(holders: &mut Listing<Option<u32>>, worker: u32, word: Word)
+    requires { worker < length holders.old }
+    ensures { holders.new ≡ index.holders_after holders.old worker word }
+{
+    match word {
+        Word::Lemma => (),
+        _ => holders.set(worker as usize, None),
+    }
 }
 
 /// Records a step for the piece of a number; `own` tells whether it is a break of the piece's own goal.

@@ -7,6 +7,7 @@ mod evidence;
 mod judging;
 mod reserve;
 mod scans;
+mod span;
 mod telling;
 mod told;
 
@@ -14,4 +15,5 @@ pub use board::Board;
 pub use event::{Admitted, Event, Judged, LemmaMark, Status, Submitted, Word};
 pub use evidence::{Evidence, Outcome, Seen};
 pub use reserve::Reserve;
+pub use span::Span;
 pub use told::GoalAnswer;

@@ -1,13 +1,15 @@
 //! Looking over pieces.
 
-ghost use Rattle.std.specs.Prelude.{◌≡◌, ◌≤◌, ◌<◌, ◌^◌, length, slice_get, option_copied};
+ghost use Rattle.std.specs.Prelude.{ℕ, false, ◌≡◌, ◌≤◌, ◌<◌, ◌^◌, length, slice_get, option_copied};
 ghost use Rattle.tcl_board.specs.Moves as words;
 ghost use Rattle.tcl_board.specs.Told as told;
+ghost use Rattle.tcl_board.specs.Index as index;
 ghost use Rattle.tcl_board.specs.Finished as finished;
 ghost use Rattle.std.specs.Option.{is_none, is_some};
 ghost use Rattle.std.specs.List.{list_all, list_any};
 
 use crate::event::Status;
+use crate::span::Span;
 use tcl_goals::{Piece, Route};
 
 pub(crate) fn settled(admitted: &[bool], breaks: &[Option<u32>], goal: u32) -> bool
@@ -34,6 +36,16 @@ pub(crate) fn recorded(breaks: &[Option<u32>], goal: u32) -> bool
     match breaks.get(goal as usize) {
         Some(Some(_)) => true,
         _ => false,
+    }
+}
+
+/// The entry of a table.
+pub(crate) fn listed(table: &[Option<u32>], k: u32) -> Option<u32>
+    ensures { result ≡ index.flat (slice_get table.now k) }
+{
+    match table.get(k as usize) {
+        Some(entry) => *entry,
+        None => None,
     }
 }
 
@@ -69,40 +81,22 @@ fn may_claim(
     }
 }
 
+/// The least piece that may be claimed; none before `from` may.
 #[tactic(auto, using(crate::proofs::Firsts::first_found), unfolding(crate::specs::Moves::first_below))]
 pub(crate) fn next(
     pieces: &[Piece],
     statuses: &[Status],
     admitted: &[bool],
     breaks: &[Option<u32>],
+    from: usize,
 ) -> Option<u32>
-    requires { length pieces.now < 2 ^ 32 }
+    requires few { length pieces.now < 2 ^ 32 }
+    requires within { from ≤ length pieces.now }
+    requires before { (k : ℕ) → k < from → words.may_claim pieces.now statuses.now admitted.now breaks.now k ≡ false }
     ensures { result ≡ words.first_below (words.may_claim pieces.now statuses.now admitted.now breaks.now) (length pieces.now) }
 {
-    for k in 0..pieces.len() {
+    for k in from..pieces.len() {
         if may_claim(pieces, statuses, admitted, breaks, k) {
-            return Some(k as u32);
-        }
-    }
-    None
-}
-
-fn held_by(statuses: &[Status], worker: u32, k: usize) -> bool
-    ensures { result ≡ words.held_by statuses.now worker k }
-{
-    match statuses.get(k) {
-        Some(Status::Held(other)) => *other == worker,
-        _ => false,
-    }
-}
-
-#[tactic(auto, using(crate::proofs::Firsts::first_found), unfolding(crate::specs::Moves::first_below))]
-pub(crate) fn held(statuses: &[Status], worker: u32) -> Option<u32>
-    requires { length statuses.now < 2 ^ 32 }
-    ensures { result ≡ words.held_of statuses.now worker }
-{
-    for k in 0..statuses.len() {
-        if held_by(statuses, worker, k) {
             return Some(k as u32);
         }
     }
@@ -138,12 +132,20 @@ fn is_unproved(statuses: &[Status], k: usize) -> bool
     }
 }
 
+/// Whether all pieces of a route of the goal, which lie in this span, are proved.
 #[tactic(auto, using(crate::proofs::Firsts::first_found), unfolding(crate::specs::Moves::first_below))]
-pub(crate) fn route_proved(pieces: &[Piece], statuses: &[Status], goal: u32, route: Route) -> bool
+pub(crate) fn route_proved(
+    pieces: &[Piece],
+    statuses: &[Status],
+    span: Span,
+    goal: u32,
+    route: Route,
+) -> bool
+    requires { index.HasSpan pieces.now (length pieces.now) goal span }
     ensures { result ≡ words.route_proved pieces.now statuses.now goal route }
 {
-    for k in 0..pieces.len() {
-        if unproved_at(pieces, statuses, goal, route, k) {
+    for k in span.first..span.end {
+        if unproved_at(pieces, statuses, goal, route, k as usize) {
             return false;
         }
     }
@@ -171,17 +173,22 @@ fn has_cause(status: Option<&Status>) -> bool
     }
 }
 
-/// The last piece of the goal that ended with a cause.
+/// The last piece of the goal that ended with a cause. The pieces of the goal lie in this span.
 #[tactic(auto, using(crate::proofs::Knowing::last_here, crate::proofs::Knowing::last_lower))]
-pub(crate) fn last_cause(pieces: &[Piece], statuses: &[Status], goal: u32) -> Option<u32>
-    requires { length pieces.now < 2 ^ 32 }
+pub(crate) fn last_cause(
+    pieces: &[Piece],
+    statuses: &[Status],
+    span: Span,
+    goal: u32,
+) -> Option<u32>
+    requires { index.HasSpan pieces.now (length pieces.now) goal span }
     ensures { result ≡ told.last_below (told.ends_with_cause pieces.now statuses.now goal) (length pieces.now) }
 {
-    let mut k = pieces.len();
-    while k > 0 {
+    let mut k = span.end;
+    while k > span.first {
         k -= 1;
-        if ends_with_cause(pieces, statuses, goal, k) {
-            return Some(k as u32);
+        if ends_with_cause(pieces, statuses, goal, k as usize) {
+            return Some(k);
         }
     }
     None

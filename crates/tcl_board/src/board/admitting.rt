@@ -23,8 +23,9 @@ impl<E: Evidence> Board<E> {
         if scans::settled(self.admitted.as_slice(), self.breaks.as_slice(), goal) {
             return false;
         }
-        scans::route_proved(pieces, statuses, goal, Route::Cut)
-            || scans::route_proved(pieces, statuses, goal, Route::Whole)
+        let span = *self.spans.at(goal as usize);
+        scans::route_proved(pieces, statuses, span, goal, Route::Cut)
+            || scans::route_proved(pieces, statuses, span, goal, Route::Whole)
     }
 
     fn waiting(&self, number: u32) -> Option<u32>

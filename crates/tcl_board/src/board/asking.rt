@@ -125,6 +125,7 @@ impl<E: Evidence> Board<E> {
             return GoalAnswer::Refuted(input);
         }
         let (pieces, statuses) = (self.pieces.as_slice(), self.statuses.as_slice());
-        self.answer_from(scans::last_cause(pieces, statuses, goal))
+        let span = *self.spans.at(goal as usize);
+        self.answer_from(scans::last_cause(pieces, statuses, span, goal))
     }
 }

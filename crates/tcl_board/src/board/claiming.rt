@@ -24,13 +24,14 @@ impl<E: Evidence> Board<E> {
             self.statuses.as_slice(),
             self.admitted.as_slice(),
             self.breaks.as_slice(),
+            self.next,
         )
     }
 
     pub(crate) fn held_number(&self, worker: u32) -> Option<u32>
         ensures { result ≡ moves.held_of self.now.position.statuses worker }
     {
-        scans::held(self.statuses.as_slice(), worker)
+        scans::listed(self.holders.as_slice(), worker)
     }
 
     fn goal_settled(&self, piece: u32) -> bool
@@ -54,9 +55,12 @@ impl<E: Evidence> Board<E> {
         ensures step { MatchOption result (self.new ≡ self.old) (λ q. self.new ≡ states.stepped self.old (event.Claim worker q)) }
     {
         let Some(piece) = self.next_piece() else {
+            self.next = self.pieces.len();
             return None;
         };
         self.statuses.set(piece as usize, Status::Held(worker));
+        self.holders.set(worker as usize, Some(piece));
+        self.next = piece as usize + 1;
         self.events.push(Event::Claim(worker, piece));
         Some(piece)
     }
@@ -74,6 +78,7 @@ impl<E: Evidence> Board<E> {
             return Poll::Go;
         }
         self.statuses.set(piece as usize, Status::Cancelled);
+        self.holders.set(worker as usize, None);
         self.events.push(Event::Cancel(worker, piece));
         Poll::Cancelled
     }

@@ -49,6 +49,7 @@ impl<E: Evidence> Board<E> {
             word,
             kept,
         );
+        judges::leave(&mut self.holders, worker, word);
         self.events.push(Event::Submit(worker, piece, word));
         if dropped {
             drop(outcome);
