@@ -1,0 +1,5 @@
+pub mod Runs
+pub mod Fitting
+pub mod Holding
+pub mod Turns
+pub mod Finishing

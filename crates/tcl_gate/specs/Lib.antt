@@ -1,0 +1,4 @@
+pub mod Fits
+pub mod Taken
+pub mod Extends
+pub mod Alone
