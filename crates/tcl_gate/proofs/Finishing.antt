@@ -1,11 +1,11 @@
 -- How the run of one worker ends.
-use Rattle.std.proofs.Common.{◌≡◌, refl, sym, ap, ◌∙◌, subst, inl, inr, ℕ, zero, suc, ◌+◌, ◌<◌, ◌≤◌, arith, nat_lt, Bool, true, false, not, ◌&&◌, ◌||◌, List, [], ◌∷◌, length, Option, Some, None}
+use Rattle.std.proofs.Common.{◌≡◌, refl, sym, ap, ◌∙◌, subst, inl, inr, ℕ, zero, suc, ◌+◌, ◌<◌, arith, nat_lt, Bool, true, false, not, ◌&&◌, ◌||◌, List, [], ◌∷◌, length, Option, Some, None}
 use Rattle.std.specs.List.{slice_get, slice_set}
 use Rattle.std.specs.Option.{is_none}
-use Rattle.std.proofs.lemmas.Bool.{and_parts, cases_Bool, cases_eq}
+use Rattle.std.proofs.lemmas.Bool.{and_parts, cases_eq}
 use Rattle.std.proofs.lemmas.Bool.Decides.{nat_tests}
 use Rattle.std.proofs.lemmas.List.{length-set}
-use Rattle.std.proofs.lemmas.Option.{slice_get_within, slice_get_past}
+use Rattle.std.proofs.lemmas.Option.{slice_get_within}
 use Rattle.tcl_goals.specs.declared.piece.Piece.{Piece}
 use Rattle.tcl_goals.specs.declared.piece.Route.{Route}
 use Rattle.tcl_goals.specs.declared.piece.Route.TheVariants as route
@@ -15,7 +15,7 @@ use Rattle.tcl_board.specs.declared.event.Status.{Status}
 use Rattle.tcl_board.specs.declared.event.Status.TheVariants as status
 use Rattle.tcl_board.specs.Shows.{Causes}
 use Rattle.tcl_board.specs.Moves.{Position, allows, is_settled, is_on, is_recorded, may_admit, may_claim, claims, next_piece, route_proved}
-use Rattle.tcl_board.specs.State.{BoardState, stepped}
+use Rattle.tcl_board.specs.State.{BoardState}
 use Rattle.tcl_board.specs.Answers.{admitted_if}
 use Rattle.tcl_board.specs.Truths.{StatusTrue}
 use Rattle.tcl_board.specs.Own.{lemmas_of}

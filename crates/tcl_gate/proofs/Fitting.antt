@@ -21,15 +21,15 @@ use Rattle.tcl_board.specs.declared.event.Word.{Word}
 use Rattle.tcl_board.specs.declared.event.Word.TheVariants as word
 use Rattle.tcl_board.specs.declared.evidence.Seen.{Seen}
 use Rattle.tcl_board.specs.declared.evidence.Seen.TheVariants as seen
-use Rattle.tcl_board.specs.Shows.{Causes, cites, is_lemma as is_lemma_hyp}
-use Rattle.tcl_board.specs.Moves.{held_of, is_recorded}
+use Rattle.tcl_board.specs.Shows.{Causes, is_lemma as is_lemma_hyp}
+use Rattle.tcl_board.specs.Moves.{is_recorded}
 use Rattle.tcl_board.specs.State.{BoardState}
 use Rattle.tcl_board.specs.Own.{marked_lemma, with_number, fitting, fitting_from, same_value, same_lit, same_bits, same_lemma, is_cited_own, cites_own}
-use Rattle.tcl_board.specs.Answers.{held_piece, piece_at}
-use Rattle.tcl_board.specs.Judging.{proves_piece, shows_lemma, judge_lemma, judge_for, judge_as_lemma, judge_at, judge, answer_in, answer_held, answer_of, MayGive}
+use Rattle.tcl_board.specs.Answers.{piece_at}
+use Rattle.tcl_board.specs.Judging.{proves_piece, shows_lemma, judge_lemma, judge, answer_in, answer_held, MayGive}
 use Rattle.tcl_board.specs.Told.{goal_in, lemmas_for}
-use Rattle.tcl_board.proofs.OwnLemmas.{some_is, none_some, listed_here, listed_other}
-use Rattle.tcl_gate.specs.Fits.{HaveSame, CitesGiven, FitsPiece}
+use Rattle.tcl_board.proofs.OwnLemmas.{none_some, listed_here, listed_other}
+use Rattle.tcl_gate.specs.Fits.{HaveSame, CitesGiven}
 use Rattle.tcl_gate.specs.Taken.{IsStepped, FitsPieceAt, FitsHeld, MaySubmit, FittingIsTaken}
 use Rattle.tcl_gate.specs.Alone.{is_lemma}
 

@@ -1,11 +1,10 @@
 -- What is held, where one worker alone claims and submits.
-use Rattle.std.proofs.Common.{◌≡◌, refl, sym, ap, ◌∙◌, subst, inl, inr, ◌⊎◌, ℕ, zero, suc, ◌+◌, ◌<◌, ◌≤◌, arith, nat_lt, Bool, true, false, ◌&&◌, List, [], ◌∷◌, ◌++◌, length, Option, Some, None}
+use Rattle.std.proofs.Common.{◌≡◌, refl, sym, ap, ◌∙◌, subst, inl, inr, ◌⊎◌, ℕ, ◌<◌, arith, nat_lt, Bool, true, false, ◌&&◌, List, [], ◌∷◌, ◌++◌, length, Option, Some, None}
 use Rattle.std.specs.List.{slice_get, slice_set}
 use Rattle.std.specs.Prelude.{MatchOption}
 use Rattle.std.specs.Option.{is_none}
-use Rattle.std.proofs.lemmas.Bool.{and_from, cases_Bool, cases_eq, eqb-true}
+use Rattle.std.proofs.lemmas.Bool.{and_from, cases_eq, eqb-true}
 use Rattle.std.proofs.lemmas.Bool.Decides.{nat_tests}
-use Rattle.std.proofs.lemmas.List.{length-set}
 use Rattle.std.proofs.lemmas.Option.{slice_get_within}
 use Rattle.tcl_goals.specs.declared.piece.Piece.{Piece}
 use Rattle.tcl_board.specs.declared.event.Event.TheVariants as event
@@ -17,11 +16,10 @@ use Rattle.tcl_board.specs.Moves.{Position, allows, moved, submitted, is_number,
 use Rattle.tcl_board.specs.Answers.{held_piece, piece_at}
 use Rattle.tcl_board.specs.Shows.{Causes}
 use Rattle.tcl_board.specs.State.{BoardState, stepped}
-use Rattle.tcl_board.specs.Steps.{IsStep}
 use Rattle.tcl_board.proofs.Firsts.{first_only, none_found}
 use Rattle.tcl_board.proofs.Moving.{held_status, next_status}
 use Rattle.tcl_board.proofs.OwnLemmas.{some_is, get_set_here, get_set_other}
-use Rattle.tcl_gate.specs.Alone.{NoneHeld, HeldAlone, GoesOn, Claimed, HeldOn}
+use Rattle.tcl_gate.specs.Alone.{NoneHeld, HeldAlone, Claimed, HeldOn}
 use Rattle.tcl_gate.proofs.Runs.{extends_step}
 use Rattle.tcl_gate.proofs.Fitting.{is_lemma_word}
 

@@ -1,20 +1,17 @@
 -- Runs, and what their events fix.
-use Rattle.std.proofs.Common.{◌≡◌, refl, sym, ap, ◌∙◌, subst, inl, inr, ℕ, ◌+◌, ◌<◌, ◌≤◌, arith, Bool, true, false, if◌then◌else◌, List, [], ◌∷◌, ◌++◌, length}
+use Rattle.std.proofs.Common.{◌≡◌, refl, sym, ap, ◌∙◌, subst, ℕ, ◌≤◌, arith, Bool, true, false, if◌then◌else◌, List, [], ◌∷◌, ◌++◌, length}
 use Rattle.std.specs.List.{slice_get}
-use Rattle.std.proofs.lemmas.Bool.{cases_Bool}
-use Rattle.std.proofs.lemmas.List.{append_assoc, append_cancel_right, append-nil, length-append}
-use Rattle.tcl_list.proofs.Booleans.{if_yes, if_no}
+use Rattle.std.proofs.lemmas.List.{append_assoc, append-nil, length-append}
 use Rattle.tcl_lang.specs.Program.{VersionedProgram}
 use Rattle.tcl_goals.specs.declared.piece.Piece.{Piece}
 use Rattle.tcl_board.specs.declared.event.Event.{Event}
 use Rattle.tcl_board.specs.declared.event.Event.TheVariants as event
 use Rattle.tcl_board.specs.declared.event.Word.{Word}
-use Rattle.tcl_board.specs.declared.event.Admitted.{Admitted}
 use Rattle.tcl_board.specs.declared.evidence.Seen.{Seen}
 use Rattle.tcl_board.specs.Shows.{Causes}
-use Rattle.tcl_board.specs.Moves.{Position, allows, moved, drops}
-use Rattle.tcl_board.specs.State.{BoardState, opening, stepped, given}
-use Rattle.tcl_board.specs.Steps.{IsTrueGift, IsStep, IsRun}
+use Rattle.tcl_board.specs.Moves.{Position, moved, drops}
+use Rattle.tcl_board.specs.State.{BoardState, opening, given}
+use Rattle.tcl_board.specs.Steps.{IsStep, IsRun}
 use Rattle.tcl_board.specs.Kept.{IsBoard}
 use Rattle.tcl_gate.specs.Extends.{Extends}
 

@@ -1,8 +1,6 @@
 -- Turns of the work on a piece, and admissions.
-use Rattle.std.proofs.Common.{◌≡◌, refl, sym, ap, ◌∙◌, subst, inl, inr, ℕ, zero, suc, ◌+◌, ◌-◌, ◌<◌, ◌≤◌, arith, nat_lt, Bool, true, false, not, ◌&&◌, ◌||◌, if◌then◌else◌, List, [], ◌∷◌, ◌++◌, length, Option, Some, None}
+use Rattle.std.proofs.Common.{◌≡◌, refl, sym, ap, ◌∙◌, subst, inl, inr, ℕ, zero, suc, ◌-◌, ◌<◌, ◌≤◌, arith, Bool, true, false, ◌||◌, List, [], ◌∷◌, ◌++◌, length, Option, Some, None}
 use Rattle.std.specs.List.{slice_get, slice_set}
-use Rattle.std.proofs.lemmas.Bool.{and_parts, cases_Bool, cases_eq}
-use Rattle.std.proofs.lemmas.Bool.Decides.{nat_tests}
 use Rattle.std.proofs.lemmas.List.{length-set}
 use Rattle.tcl_lang.specs.Program.{VersionedProgram}
 use Rattle.tcl_lang.specs.Goal.{goal_count}
@@ -10,16 +8,12 @@ use Rattle.tcl_port.specs.Polling.{Rose}
 use Rattle.tcl_goals.specs.declared.lemma.Numbered.{Numbered}
 use Rattle.tcl_goals.specs.LemmaList.{LemmaList}
 use Rattle.tcl_goals.specs.declared.piece.Piece.{Piece}
-use Rattle.tcl_goals.specs.declared.piece.Route.TheVariants as route
 use Rattle.tcl_board.specs.declared.event.Event.TheVariants as event
 use Rattle.tcl_board.specs.declared.event.Admitted.{Admitted}
 use Rattle.tcl_board.specs.declared.event.Admitted.TheVariants as admitted
-use Rattle.tcl_board.specs.declared.event.Judged.TheVariants as judged
-use Rattle.tcl_board.specs.declared.event.Status.{Status}
-use Rattle.tcl_board.specs.declared.event.Status.TheVariants as status
 use Rattle.tcl_board.specs.declared.evidence.Seen.{Seen}
 use Rattle.tcl_board.specs.Shows.{Causes}
-use Rattle.tcl_board.specs.Moves.{Position, allows, moved, held_of, is_settled, is_on, is_recorded, may_admit, route_proved, drops}
+use Rattle.tcl_board.specs.Moves.{Position, allows, held_of, is_on, is_recorded}
 use Rattle.tcl_board.specs.State.{BoardState, stepped, given}
 use Rattle.tcl_board.specs.Answers.{admitted_if}
 use Rattle.tcl_board.specs.Judging.{judge, after_judged, after_held, after_submit}
@@ -30,7 +24,7 @@ use Rattle.tcl_board.specs.Kept.{IsBoard}
 use Rattle.tcl_gate.specs.Extends.{Extends}
 use Rattle.tcl_gate.specs.Fits.{FitsPiece}
 use Rattle.tcl_gate.specs.Taken.{FitsPieceAt, FitsHeld}
-use Rattle.tcl_gate.specs.Alone.{NoneHeld, HeldAlone, GoesOn, HeldOn, IsTurn, Admits, NoneBelow, is_lemma}
+use Rattle.tcl_gate.specs.Alone.{HeldAlone, GoesOn, HeldOn, IsTurn, Admits, is_lemma}
 use Rattle.tcl_gate.proofs.Runs.{extends_same, extends_step, extends_trans, extends_length, given_steps}
 use Rattle.tcl_gate.proofs.Fitting.{Fitting, fitting_judged, is_lemma_word}
 use Rattle.tcl_gate.proofs.Holding.{submitted_held}

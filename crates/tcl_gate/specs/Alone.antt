@@ -1,5 +1,5 @@
 -- One worker alone at a board.
-use Rattle.std.specs.Prelude.{◌≡◌, ◌<◌, ℕ, Bool, true, false, List, length, slice_get, Option, Some, None}
+use Rattle.std.specs.Prelude.{◌≡◌, ◌<◌, ℕ, Bool, true, false, length, slice_get, Option, Some, None}
 use Rattle.tcl_goals.specs.declared.piece.Piece.{Piece}
 use Rattle.tcl_board.specs.declared.event.Status.TheVariants as status
 use Rattle.tcl_board.specs.declared.evidence.Seen.{Seen}
