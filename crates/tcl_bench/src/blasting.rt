@@ -40,7 +40,7 @@ pub(crate) fn form_of(alloc: Global, text: &str) -> Result<Option<Ssa>, AllocErr
     Ok(Some(ssa(alloc, &typed)?))
 }
 
-// Whether the claim is an equation.
+/// Whether the claim is an equation.
 fn is_algebraic(form: &Ssa, claim: &Claim) -> bool
     ensures { result ≡ is_algebraic_claim form.now claim.now }
 {
@@ -56,7 +56,7 @@ fn is_algebraic(form: &Ssa, claim: &Claim) -> bool
     }
 }
 
-// The number of clauses of the whole fact of goal 0, if there are not too many.
+/// The number of clauses of the whole fact of goal 0, if there are not too many.
 fn count_of(alloc: Global, form: &Ssa) -> Result<Option<usize>, AllocError> {
     if !has_goal(form.lines().as_slice(), 0) {
         return Ok(None);

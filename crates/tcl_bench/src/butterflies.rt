@@ -22,7 +22,7 @@ pub(crate) fn butterflies_text(alloc: Global, count: u32) -> Result<String, Allo
     }
 }
 
-// All inputs, and then the instructions and goals of each butterfly.
+/// All inputs, and then the instructions and goals of each butterfly.
 fn program_text(alloc: Global, count: u32) -> Result<String, AllocError> {
     let mut text = String::new(alloc);
     for k in 0..count {
@@ -36,7 +36,7 @@ fn program_text(alloc: Global, count: u32) -> Result<String, AllocError> {
     Ok(text)
 }
 
-// The product, and its sum and difference with the first input.
+/// The product, and its sum and difference with the first input.
 fn push_steps(text: &mut String, k: u32) -> Result<(), AllocError> {
     write!(
         text,
@@ -49,7 +49,7 @@ fn push_steps(text: &mut String, k: u32) -> Result<(), AllocError> {
     Ok(())
 }
 
-// The sum and the difference, over the integers and modulo 3329.
+/// The sum and the difference, over the integers and modulo 3329.
 fn push_goals(text: &mut String, k: u32) -> Result<(), AllocError> {
     for modulus in ["", " mod 3329"] {
         write!(text, "assert alg sum{k} = a{k} + b{k} * z{k}{modulus}\n")?;
@@ -71,7 +71,7 @@ fn counts_text(alloc: Global, form: &Ssa) -> Result<String, AllocError> {
     format!(in alloc; "goals {count} zeros {zeros}\n")
 }
 
-// 1 where the reduction of the goal's whole fact leaves nothing, else 0.
+/// 1 where the reduction of the goal's whole fact leaves nothing, else 0.
 fn zero_of(alloc: Global, form: &Ssa, goal: u32) -> Result<u32, AllocError> {
     if !has_goal(form.lines().as_slice(), goal) {
         return Ok(0);
@@ -86,7 +86,7 @@ fn zero_of(alloc: Global, form: &Ssa, goal: u32) -> Result<u32, AllocError> {
     }
 }
 
-// Whether the claim is an equation, and the uses are in order.
+/// Whether the claim is an equation, and the uses are in order.
 fn is_reducible(form: &Ssa, fact: &Fact) -> bool
     ensures claim { IsTrue result → is_some (ends.claim_equation form.now fact.now.claim) ≡ true }
     ensures uses { IsTrue result →

@@ -24,7 +24,7 @@ fn answer_text(alloc: Global, answer: LogAnswer) -> Result<String, AllocError> {
     }
 }
 
-// Clause 0 says that variable 0 is true, clause k that variable k - 1 implies variable k, and the last that the last is false.
+/// Clause 0 says that variable 0 is true, clause k that variable k - 1 implies variable k, and the last that the last is false.
 fn implications(alloc: Global, steps: u32) -> Result<Cnf, AllocError> {
     let mut cnf = Cnf::new(alloc);
     push(alloc, &mut cnf, &[variable(0)])?;
@@ -59,7 +59,7 @@ fn chains(alloc: Global, steps: u32, lines: u32, length: u32) -> Result<LogLines
     Ok(log)
 }
 
-// The number of the clause of a variable, and those of the implications behind it.
+/// The number of the clause of a variable, and those of the implications behind it.
 fn chain(alloc: Global, derived: u32, from: u32, length: u32) -> Result<Vec<u32>, AllocError> {
     let mut chain = Vec::new(alloc);
     chain.push(derived)?;

@@ -34,7 +34,7 @@ pub(crate) fn sum(
     Ok(word)
 }
 
-// The sum of three bits and its carry.
+/// The sum of three bits and its carry.
 fn full_adder(gates: &mut Gates, x: Lit, y: Lit, carry: Lit) -> Result<(Lit, Lit), AllocError> {
     let half = add(gates, Gate::Xor(x, y))?;
     let bit = add(gates, Gate::Xor(half, carry))?;
@@ -60,7 +60,7 @@ pub(crate) fn product(
     Ok(total)
 }
 
-// The first word plus the second one shifted up by so many places, as long as the first.
+/// The first word plus the second one shifted up by so many places, as long as the first.
 fn sum_from(
     alloc: Global,
     gates: &mut Gates,
@@ -78,7 +78,7 @@ fn sum_from(
     Ok(word)
 }
 
-// The word where the bit is true, and else 0.
+/// The word where the bit is true, and else 0.
 fn masked(
     alloc: Global,
     gates: &mut Gates,
@@ -107,7 +107,7 @@ pub(crate) fn differences(
     Ok(bits)
 }
 
-// Appends a gate. A gate with a literal of a later variable is answered as one for which there is no memory.
+/// Appends a gate. A gate with a literal of a later variable is answered as one for which there is no memory.
 fn add(gates: &mut Gates, gate: Gate) -> Result<Lit, AllocError> {
     if !is_below(gates.len(), &gate) {
         return Err(AllocError);
@@ -115,7 +115,7 @@ fn add(gates: &mut Gates, gate: Gate) -> Result<Lit, AllocError> {
     gates.push(gate)
 }
 
-// Whether the gate's literals are of variables up to this number.
+/// Whether the gate's literals are of variables up to this number.
 fn is_below(count: usize, gate: &Gate) -> bool
     ensures { result ≡ true → IsBelow (count + 1) gate.now }
 {

@@ -77,7 +77,7 @@ fn products_differ(
     unequal(alloc, gates, &left, &right)
 }
 
-// `x * (y + z)`.
+/// `x * (y + z)`.
 fn product_of_sum(
     alloc: Global,
     gates: &mut Gates,
@@ -89,7 +89,7 @@ fn product_of_sum(
     circuit::product(alloc, gates, x, &both)
 }
 
-// `x * y + x * z`.
+/// `x * y + x * z`.
 fn sum_of_products(
     alloc: Global,
     gates: &mut Gates,
@@ -122,7 +122,7 @@ fn sums_differ(
     unequal(alloc, gates, &left, &right)
 }
 
-// `(x + y) + z`.
+/// `(x + y) + z`.
 fn sum_plus_word(
     alloc: Global,
     gates: &mut Gates,
@@ -134,7 +134,7 @@ fn sum_plus_word(
     circuit::sum(alloc, gates, &both, z)
 }
 
-// `x + (y + z)`.
+/// `x + (y + z)`.
 fn word_plus_sum(
     alloc: Global,
     gates: &mut Gates,
@@ -146,7 +146,7 @@ fn word_plus_sum(
     circuit::sum(alloc, gates, x, &both)
 }
 
-// The clauses of the gates, and that some bit of the two words differs.
+/// The clauses of the gates, and that some bit of the two words differs.
 fn unequal(
     alloc: Global,
     gates: &mut Gates,
@@ -174,7 +174,7 @@ fn pigeons_sit(alloc: Global, pigeons: u32, holes: u32) -> Result<Cnf, AllocErro
     Ok(cnf)
 }
 
-// Appends that the two pigeons share no hole.
+/// Appends that the two pigeons share no hole.
 fn keep_apart(
     alloc: Global,
     cnf: &mut Cnf,
@@ -192,13 +192,13 @@ fn keep_apart(
     Ok(())
 }
 
-// The literal that the pigeon sits in the hole.
+/// The literal that the pigeon sits in the hole.
 fn sits(pigeon: u32, hole: u32, holes: u32) -> Lit {
     let place = pigeon.wrapping_mul(holes).wrapping_add(hole);
     Lit::from_number(place.wrapping_mul(2))
 }
 
-// Appends the clause of the literals, unless it is always true.
+/// Appends the clause of the literals, unless it is always true.
 fn push(alloc: Global, cnf: &mut Cnf, lits: &[Lit]) -> Result<(), AllocError> {
     if let Some(clause) = Clause::from_lits(alloc, lits)? {
         cnf.push(clause)?;

@@ -103,14 +103,14 @@ fn size_of(words: &[&str]) -> Option<u32> {
     }
 }
 
-// The workload that the command line names, if there is one.
+/// The workload that the command line names, if there is one.
 fn chosen(rt: &HostRuntime, alloc: Global) -> io::Result<Option<Workload>> {
     let args: Vec<String> = env::args(rt)?.skip(1).collect(alloc)?;
     let words: Vec<&str> = args.iter().map(|word| word.as_str()).collect(alloc)?;
     Ok(workload_of(&words))
 }
 
-// What is printed of a workload.
+/// What is printed of a workload.
 fn text_of(alloc: Global, workload: Workload) -> Result<String, AllocError> {
     match workload {
         Workload::Search(formula, budget) => searching::search_text(alloc, formula, budget),

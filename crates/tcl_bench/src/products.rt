@@ -13,7 +13,7 @@ pub(crate) fn products_text(alloc: Global, width: u32, count: u32) -> Result<Str
     format!(in alloc; "gates {}\n", gates.len())
 }
 
-// The circuit of so many such products.
+/// The circuit of so many such products.
 #[tactic(auto, using(tcl_gates::proofs::Shown::within_grown, tcl_gates::proofs::Shown::within_none))]
 fn product_gates(alloc: Global, width: u32, count: u32) -> Result<Gates, AllocError> {
     let mut gates = Gates::new(alloc);
@@ -40,7 +40,7 @@ fn push_products(
     Ok(())
 }
 
-// A word of fresh free bits.
+/// A word of fresh free bits.
 #[tactic(auto, using(tcl_gates::proofs::Shown::within_grown, tcl_gates::proofs::Shown::within_none, tcl_gates::proofs::Shown::within_append, tcl_gates::proofs::Shown::within_one))]
 fn free_word(alloc: Global, gates: &mut Gates, width: u32) -> Result<Lits, AllocError>
     ensures within { IfOk result (λ word. AreWithin (length gates.new) word) }

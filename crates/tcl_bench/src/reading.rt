@@ -37,7 +37,7 @@ pub(crate) fn parse_text(alloc: Global, kind: Kind, size: u32) -> Result<String,
     }
 }
 
-// The number of lines of the program that the text reads as, if it reads as one.
+/// The number of lines of the program that the text reads as, if it reads as one.
 fn count_lines(alloc: Global, text: &[u8]) -> Option<usize> {
     let parsed = parse(alloc, text).ok()?;
     Some(parsed.program().lines().len())

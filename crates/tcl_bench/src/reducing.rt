@@ -77,7 +77,7 @@ fn reduced_by<R: Ring>(
     Ok(plain(alloc, ring, defs, f))
 }
 
-// Whether the place comes after all others.
+/// Whether the place comes after all others.
 fn is_later<R: Ring>(defs: &Defs<R>, place: u32) -> bool
     ensures { IsTrue result → (variable : ℕ) (poly : Terms R.Elem) → AreRising (defs.now ++ (place, variable, poly) ∷ []) }
 {
@@ -92,7 +92,7 @@ fn is_later<R: Ring>(defs: &Defs<R>, place: u32) -> bool
     false
 }
 
-// Appends a definition, if its place comes after the others.
+/// Appends a definition, if its place comes after the others.
 fn define<R: Ring>(
     ring: &R,
     defs: &mut Defs<R>,
@@ -118,7 +118,7 @@ fn define<R: Ring>(
     }
 }
 
-// Twice a product of two inputs, plus the variable that an earlier place defines, or an input.
+/// Twice a product of two inputs, plus the variable that an earlier place defines, or an input.
 fn definition_of<R: Ring>(alloc: Global, ring: &R, k: u32) -> Result<Poly<R>, PolyFault>
     ensures { IfOk result (λ p. IsOver (R.modulus_of ring.now) (R.amount ring.now) p) }
 {
@@ -127,7 +127,7 @@ fn definition_of<R: Ring>(alloc: Global, ring: &R, k: u32) -> Result<Poly<R>, Po
     add(ring, &first, &second)
 }
 
-// The variable of an earlier place, or an input.
+/// The variable of an earlier place, or an input.
 fn earlier(k: u32) -> u32 {
     if k >= 20 {
         INPUTS.saturating_add(k - 20)
@@ -136,7 +136,7 @@ fn earlier(k: u32) -> u32 {
     }
 }
 
-// So many different products of an input and two defined variables.
+/// So many different products of an input and two defined variables.
 fn polynomial<R: Ring>(
     alloc: Global,
     ring: &R,
@@ -159,12 +159,12 @@ fn polynomial<R: Ring>(
     Ok(sum)
 }
 
-// A defined variable, where there is one.
+/// A defined variable, where there is one.
 fn defined(definitions: u32, k: u32) -> u32 {
     INPUTS.saturating_add(k % definitions.max(1))
 }
 
-// A coefficient times variables.
+/// A coefficient times variables.
 fn term<R: Ring>(
     alloc: Global,
     ring: &R,

@@ -87,7 +87,7 @@ fn name_of(found: &Found) -> &'static str {
     }
 }
 
-// How many clauses the log has behind the given ones, where there is a log.
+/// How many clauses the log has behind the given ones, where there is a log.
 fn derived_by(found: &Found) -> usize {
     match found {
         Found::Refutes(log) => log.len().saturating_sub(log.given()),
@@ -97,7 +97,7 @@ fn derived_by(found: &Found) -> usize {
     }
 }
 
-// How many literals the derived clauses have, where there is a log.
+/// How many literals the derived clauses have, where there is a log.
 fn literals_by(found: &Found) -> u64 {
     match found {
         Found::Refutes(log) => derived_literals(log),
@@ -148,7 +148,7 @@ fn write_clause(text: &mut String, clause: &Clause) -> Result<(), AllocError> {
     text.push_str("0\n")
 }
 
-// One more than the greatest variable.
+/// One more than the greatest variable.
 fn variables_of(cnf: &Cnf) -> u64 {
     let mut count = 0;
     for k in 0..cnf.len() {

@@ -67,7 +67,7 @@ const STEPS: &[(&str, &str)] = &[
     ("cmov", "n l m e"),
 ];
 
-// The form of the program; none where a word cannot be of so many bits.
+/// The form of the program; none where a word cannot be of so many bits.
 fn form_of(alloc: Global, width: u32) -> Option<Ssa> {
     let text = program_text(alloc, width).ok()?;
     let parsed = parse(alloc, text.as_bytes()).ok()?;
@@ -75,7 +75,7 @@ fn form_of(alloc: Global, width: u32) -> Option<Ssa> {
     ssa(alloc, &typed).ok()
 }
 
-// The values of all variables in the run from two zeros.
+/// The values of all variables in the run from two zeros.
 fn zeros(alloc: Global, form: &Ssa) -> Option<Trace>
     ensures { IfSome result (λ trace. AreValues form.now.variables trace) }
 {
@@ -99,7 +99,7 @@ fn walked_text(alloc: Global, form: &Ssa, width: u32) -> Result<String, AllocErr
     }
 }
 
-// The sum of the last results over all values of the two inputs.
+/// The sum of the last results over all values of the two inputs.
 fn sum_of_walk(form: &Ssa, values: &mut [i128], width: u32) -> u64
     requires typed { AreValues form.now.variables values.old }
     requires width { width ≤ 15 }
@@ -112,7 +112,7 @@ fn sum_of_walk(form: &Ssa, values: &mut [i128], width: u32) -> u64
     sum
 }
 
-// The last result where the two inputs have these values.
+/// The last result where the two inputs have these values.
 fn last_result(form: &Ssa, values: &mut [i128], first: u32, second: u32) -> u64
     requires { AreValues form.now.variables values.old }
     ensures { AreValues form.now.variables values.new }
@@ -128,8 +128,7 @@ fn last_result(form: &Ssa, values: &mut [i128], first: u32, second: u32) -> u64
     }
 }
 
-// Gives a variable the value whose lowest bits are those of a number.
-
+/// Gives a variable the value whose lowest bits are those of a number.
 fn give(variables: &[Variable], values: &mut [i128], variable: u32, n: u32)
     requires types { All (λ x. IsTy x.ty) variables.now }
     requires typed { AreValues variables.now values.old }
@@ -158,7 +157,7 @@ fn value_with(variables: &[Variable], variable: u32, n: u32) -> i128
     }
 }
 
-// The greatest goal of the program, which is its claim.
+/// The greatest goal of the program, which is its claim.
 fn last_goal(form: &Ssa) -> u32 {
     let mut last = 0;
     for goal in 0..END {
@@ -169,7 +168,7 @@ fn last_goal(form: &Ssa) -> u32 {
     last
 }
 
-// The fact that the last goal follows by all instructions.
+/// The fact that the last goal follows by all instructions.
 fn fact_of(alloc: Global, form: &Ssa) -> Result<Fact, AllocError> {
     let mut uses = Uses::new(alloc);
     for place in FIRST..END {
@@ -183,7 +182,7 @@ fn fact_of(alloc: Global, form: &Ssa) -> Result<Fact, AllocError> {
     })
 }
 
-// Whether the fact is in order.
+/// Whether the fact is in order.
 fn is_in_order(form: &Ssa, fact: &Fact, lemmas: &Lemmas) -> bool
     ensures { IsTrue result → InOrder form.now lemmas.now.items fact.now }
 {

@@ -42,7 +42,7 @@ pub fn add(alloc: Global, xs: &[bool], ys: &[bool], carry: bool) -> Result<Sum, 
     Ok(Sum { bits, carry: next })
 }
 
-// Whether place `i` of a word of this length is that of the sign.
+/// Whether place `i` of a word of this length is that of the sign.
 fn is_sign(signed: bool, i: usize, len: usize) -> bool
     requires { i < len }
     ensures { result ≡ signed && (i + 1 == len) }

@@ -57,7 +57,7 @@ pub(crate) fn combine<R: Ring>(
     Ok(sum)
 }
 
-// A product and the sum with what is there.
+/// A product and the sum with what is there.
 fn add_product<R: Ring>(
     ring: &R,
     a: &Poly<R>,

@@ -46,14 +46,14 @@ pub struct MemorySink {
     pub ghost made: { room ≤ vec_capacity bytes },
 }
 
-// Whether the number stands in the list.
+/// Whether the number stands in the list.
 fn is_listed(failing: &[u64], call: u64) -> bool
     ensures { result ≡ list_any (λ k. k == call) failing.now }
 {
     failing.iter().any(|k| *k == call)
 }
 
-// Whether the call of this number is to fail.
+/// Whether the call of this number is to fail.
 fn is_failing(failing: &[u64], call: u64) -> bool
     ensures { result ≡ fails_at failing.now call }
 {

@@ -51,7 +51,7 @@ fn value_at(store: &[Word], args: &[Atom], k: usize) -> i128
     }
 }
 
-// Operand k of the instruction; the choice is the operand of `nondet`.
+/// Operand k of the instruction; the choice is the operand of `nondet`.
 fn operand(store: &[Word], instr: &Instr, choice: i128, k: usize) -> i128
     ensures { result ≡ nth (runs.operands_of instr.now.op (values_of store.now instr.now.args) choice) k }
 {
@@ -125,7 +125,7 @@ pub fn pass(store: &mut [Word], line: &Line, taken: i128)
     }
 }
 
-// The value of the input that is taken next, or 0 where there is none.
+/// The value of the input that is taken next, or 0 where there is none.
 fn next_value(input: &[i128], taken: usize) -> i128
     ensures { result ≡ slice_index_or input.now taken (pos 0) }
 {

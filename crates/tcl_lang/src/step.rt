@@ -31,7 +31,7 @@ pub fn wrapped_product(ty: Ty, a: i128, b: i128) -> i128
     }
 }
 
-// The high and the low part of the product of two values of the type.
+/// The high and the low part of the product of two values of the type.
 fn product_parts(ty: Ty, a: i128, b: i128) -> Results
     requires of_words { IsTy ty }
     requires first { InType ty a }
@@ -47,7 +47,7 @@ fn product_parts(ty: Ty, a: i128, b: i128) -> Results
     }
 }
 
-// The floor of n / 2 ^ k, and the remainder.
+/// The floor of n / 2 ^ k, and the remainder.
 fn parts(n: i128, k: u32) -> Results
     requires { k ≤ 64 }
     ensures { listed result ≡ parts_of k n }
@@ -55,7 +55,7 @@ fn parts(n: i128, k: u32) -> Results
     Results::Two(high_part(n, k), lowest_bits(k, n))
 }
 
-// The borrow of a difference, and the difference modulo 2 ^ k.
+/// The borrow of a difference, and the difference modulo 2 ^ k.
 fn borrowed(n: i128, k: u32) -> Results
     requires amount { k ≤ 64 }
     requires small { unsigned_abs n < 2 ^ 67 }
@@ -64,7 +64,7 @@ fn borrowed(n: i128, k: u32) -> Results
     Results::Two(-high_part(n, k), lowest_bits(k, n))
 }
 
-// The word of a bit pattern.
+/// The word of a bit pattern.
 fn word_of_pattern(ty: Ty, bits: u128) -> i128
     requires of_words { IsTy ty }
     requires narrow { bits < 2 ^ 64 }
@@ -73,7 +73,7 @@ fn word_of_pattern(ty: Ty, bits: u128) -> i128
     wrap(ty, bits as i128)
 }
 
-// The pattern of n with every bit flipped.
+/// The pattern of n with every bit flipped.
 fn flipped(n: i128, width: u32) -> u128
     requires { width ≤ 64 }
     ensures value { result ≡ 2 ^ width - 1 - pattern_of width n }
@@ -82,7 +82,9 @@ fn flipped(n: i128, width: u32) -> u128
     (1u128 << width) - 1 - pattern(n, width)
 }
 
-/// The results of the instruction at the operands `a`, `b` and `c`, of which it reads as many as it has.
+/// The results of the instruction at the operands `a`, `b` and `c`, of which it reads as many as it has. It is compiled into its
+/// callers, so that the results of a step need not go through memory.
+#[inline(always)]
 pub fn results(op: Op, ty: Ty, amount: u32, a: i128, b: i128, c: i128) -> Results
     requires { HasOperands op ty amount a b c }
     ensures { listed result ≡ row_results op ty amount a b c }

@@ -43,7 +43,7 @@ pub fn small_sum_with_product(a: &i128, b: &i128, c: &i128) -> Option<i128>
     }
 }
 
-// Whether a product of that magnitude is negative, or 0.
+/// Whether a product of that magnitude is negative, or 0.
 fn is_below(b: &i128, c: &i128) -> bool
     ensures { b.now *ℤ c.now ≡ signed result (unsigned_abs b.now * unsigned_abs c.now) }
 {

@@ -57,7 +57,7 @@ pub fn wrap_to(signed: bool, width: u32, n: i128) -> i128
     residue_value(signed, width, n)
 }
 
-// The same, from the lowest bits of `n`. To add half of the range first would overflow near the greatest `i128`.
+/// The same, from the lowest bits of `n`. To add half of the range first would overflow near the greatest `i128`.
 #[tactic(auto, unfolding(crate::specs::Range::wrapped))]
 fn residue_value(signed: bool, width: u32, n: i128) -> i128
     requires positive { 0 < width }

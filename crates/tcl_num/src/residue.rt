@@ -29,7 +29,7 @@ pub fn mul_mod(a: u128, b: u128, m: u128) -> u128
     }
 }
 
-// A number below the modulus is its own residue, and is not divided.
+/// A number below the modulus is its own residue, and is not divided.
 fn residue_of(n: u128, m: u128) -> u128
     requires { 0 < m }
     ensures { result ≡ n % m }
@@ -52,7 +52,7 @@ fn mul_by_doubling(a: u128, b: u128, m: u128) -> u128
     product
 }
 
-// One digit: twice the product so far, and `a` once more where the digit is 1.
+/// One digit: twice the product so far, and `a` once more where the digit is 1.
 fn doubled_and_added(product: u128, a: u128, digit: u128, m: u128) -> u128
     requires residue { product < m }
     requires first { a < m }

@@ -131,7 +131,7 @@ fn compare_factors(a: &[Factor], b: &[Factor]) -> Ordering
     }
 }
 
-// The unknown that comes first is the one at which the exponents differ.
+/// The unknown that comes first is the one at which the exponents differ.
 fn compare_factor(f: Factor, g: Factor) -> Ordering
     ensures { result ≡ m.factor_order (factor_of f) (factor_of g) }
 {
@@ -142,7 +142,7 @@ fn compare_factor(f: Factor, g: Factor) -> Ordering
     }
 }
 
-// The factors of the product, in the order of their unknowns.
+/// The factors of the product, in the order of their unknowns.
 fn merge_factors(
     alloc: Global,
     a: &[Factor],
@@ -183,7 +183,7 @@ fn merge_factors(
     Ok(product)
 }
 
-// The factors from place `from` on, at the end.
+/// The factors from place `from` on, at the end.
 fn append_factors(
     product: &mut SmallVec<Factor, 4>,
     factors: &[Factor],

@@ -67,7 +67,7 @@ fn merge_multiple<R: Ring>(
     Ok(sum)
 }
 
-// Adds a copy of the term at the end.
+/// Adds a copy of the term at the end.
 fn push_first<R: Ring>(
     ring: &R,
     sum: &mut Vec<(Mono, R::Elem)>,
@@ -84,7 +84,7 @@ fn push_first<R: Ring>(
     Ok(())
 }
 
-// Adds the term times the constant at the end, unless its coefficient is 0.
+/// Adds the term times the constant at the end, unless its coefficient is 0.
 fn push_second<R: Ring>(
     ring: &R,
     sum: &mut Vec<(Mono, R::Elem)>,
@@ -101,7 +101,7 @@ fn push_second<R: Ring>(
     }
 }
 
-// Adds the first term and the constant times the second, of the same monomial, at the end, unless their sum is 0.
+/// Adds the first term and the constant times the second, of the same monomial, at the end, unless their sum is 0.
 fn push_both<R: Ring>(
     ring: &R,
     sum: &mut Vec<(Mono, R::Elem)>,

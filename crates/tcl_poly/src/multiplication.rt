@@ -63,7 +63,7 @@ pub fn mul<R: Ring>(ring: &R, a: &Poly<R>, b: &Poly<R>) -> Result<Poly<R>, PolyF
     Ok(Poly { terms })
 }
 
-// The product of two sorted lists of terms, where no coefficient can be too great. The shorter one is halved.
+/// The product of two sorted lists of terms, where no coefficient can be too great. The shorter one is halved.
 pub(crate) fn multiply<R: Ring>(
     alloc: Global,
     ring: &R,
@@ -85,7 +85,7 @@ pub(crate) fn multiply<R: Ring>(
     }
 }
 
-// The same by the halves of the first list.
+/// The same by the halves of the first list.
 fn multiply_terms<R: Ring>(
     alloc: Global,
     ring: &R,
@@ -113,7 +113,7 @@ fn multiply_terms<R: Ring>(
     Ok(product)
 }
 
-// The product with one term, where no coefficient can be too great.
+/// The product with one term, where no coefficient can be too great.
 fn scale_terms<R: Ring>(
     alloc: Global,
     ring: &R,

@@ -38,7 +38,7 @@ pub(crate) fn without(alloc: Global, mono: &Mono, key: u64) -> Result<Mono, Allo
     Ok(rest)
 }
 
-// The same, where the exponent is known: a monomial in which the unknown does not occur is moved.
+/// The same, where the exponent is known: a monomial in which the unknown does not occur is moved.
 fn divided(alloc: Global, mono: Mono, key: u64, exponent: u32) -> Result<Mono, AllocError>
     requires { exponent ≡ m.exponent mono key }
     ensures { IfOk result (λ rest. rest ≡ s.without key mono) }
@@ -80,7 +80,7 @@ pub(crate) fn parts<R: Ring>(
     Ok(parts)
 }
 
-// One term more, at the end of the part of its power.
+/// One term more, at the end of the part of its power.
 fn add_term<R: Ring>(
     alloc: Global,
     key: u64,
@@ -98,7 +98,7 @@ fn add_term<R: Ring>(
     Ok(())
 }
 
-// Empty parts up to that power, where there are none.
+/// Empty parts up to that power, where there are none.
 fn make_room<R: Ring>(alloc: Global, parts: &mut Vec<Poly<R>>, power: u32) -> Result<(), AllocError>
     ensures length { OnOk result (length parts.new.items ≡ max (length parts.old.items) (suc power)) }
     ensures same { OnOk result ((k : ℕ) → s.by_power parts.new.items k ≡ s.by_power parts.old.items k) }

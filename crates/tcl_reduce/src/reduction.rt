@@ -76,7 +76,7 @@ fn push<R: Ring>(
     Ok(())
 }
 
-// The answer from what is left and the cofactors from the last definition to the first.
+/// The answer from what is left and the cofactors from the last definition to the first.
 fn finish<R: Ring>(rest: Poly<R>, cofactors: Vec<Cofactor<R>>, spent: u128) -> Plain<R>
     ensures { (value : R.Elem → ℤ) → IsPlain value (Done (p.terms_of value rest) (pairs_of value (reverse (numbered cofactors.items))) spent) result }
 {

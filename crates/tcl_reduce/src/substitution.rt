@@ -104,7 +104,7 @@ fn power_of<R: Ring>(
     }
 }
 
-// The quotient times the definition, plus the power of the unknown.
+/// The quotient times the definition, plus the power of the unknown.
 fn next_quotient<R: Ring>(
     alloc: Global,
     ring: &R,
@@ -125,7 +125,7 @@ fn next_quotient<R: Ring>(
     sum(ring, row, power_of(alloc, ring, unknown, k)?)
 }
 
-// The sum with the row of a part, where there is one.
+/// The sum with the row of a part, where there is one.
 fn add_row<R: Ring>(
     ring: &R,
     total: Poly<R>,

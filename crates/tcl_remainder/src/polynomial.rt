@@ -46,7 +46,7 @@ pub fn polynomial_of<R: Ring>(
     Ok(poly)
 }
 
-// Adds the term that the summand has in the ring, if it has one.
+/// Adds the term that the summand has in the ring, if it has one.
 fn push_summand<R: Ring>(
     alloc: Global,
     ring: &R,
@@ -97,7 +97,7 @@ fn unknown_of(name: Name) -> Unknown
     }
 }
 
-// The sum of the exponents, which stays at 2^32 - 1 where it is greater.
+/// The sum of the exponents, which stays at 2^32 - 1 where it is greater.
 fn degree_of_powers(powers: &[Power]) -> u32
     ensures { result ≡ min (m.degree (t.monomial_of powers.now)) (2 ^ 32 - 1) }
 {

@@ -10,7 +10,7 @@ use crate::number::is_in_type;
 use crate::table::{BIT, Types, unsigned};
 use tcl_lang::{Atom, Instr, Op, Ty};
 
-// Carries and borrows want an unsigned type, results of twice the width a width of at most 32.
+/// Carries and borrows want an unsigned type, results of twice the width a width of at most 32.
 pub(crate) fn allows(op: Op, ty: Ty) -> bool
     ensures { result ≡ typing.allows op ty }
 {
@@ -21,7 +21,7 @@ pub(crate) fn allows(op: Op, ty: Ty) -> bool
     }
 }
 
-// A shift takes 0 to w - 1, a split 1 to w - 1.
+/// A shift takes 0 to w - 1, a split 1 to w - 1.
 pub(crate) fn allows_amount(op: Op, ty: Ty, amount: u32) -> bool
     ensures { result ≡ typing.allows_amount op ty amount }
 {
@@ -89,7 +89,7 @@ fn all_suit(types: &Types, wanted: &[Option<Ty>], args: &[Atom]) -> bool
     true
 }
 
-// Where no type is wanted any operand may stand.
+/// Where no type is wanted any operand may stand.
 fn suits(wanted: Option<Ty>, ty: Option<Ty>) -> bool
     ensures { result ≡ typing.suits wanted ty }
 {

@@ -19,8 +19,8 @@ pub(crate) fn has_sound_modulus(pred: &Pred) -> bool
     }
 }
 
-// One number from 1, or powers of 2 with falling exponents, the first with a plus, and then at most one number that is
-// less than the last power.
+/// One number from 1, or powers of 2 with falling exponents, the first with a plus, and then at most one number that is
+/// less than the last power.
 fn is_modulus(parts: &[Part]) -> bool
     ensures { result ≡ modulus.is_modulus parts.now }
 {

@@ -6,14 +6,14 @@ ghost use Rattle.tcl_lang.specs.Types as types;
 use tcl_lang::Ty;
 use tcl_num::power_of_two;
 
-// Every `i128` is below 2 ^ 127.
+/// Every `i128` is below 2 ^ 127.
 pub(crate) fn is_below_power(n: i128, exponent: u32) -> bool
     ensures { result ≡ int_lt n (pos (2 ^ exponent)) }
 {
     exponent >= 127 || n < power_of_two(exponent)
 }
 
-// The least `i128` is - 2 ^ 127.
+/// The least `i128` is - 2 ^ 127.
 fn is_from_negated_power(n: i128, exponent: u32) -> bool
     ensures { result ≡ int_le (neg_ℤ (pos (2 ^ exponent))) n }
 {

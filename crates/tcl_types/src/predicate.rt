@@ -127,7 +127,7 @@ fn sides_agree(types: &Types, pred: &RngPred) -> bool
     }
 }
 
-// The type of a term, where the sides of each operator in it agree.
+/// The type of a term, where the sides of each operator in it agree.
 fn range_type(types: &Types, term: &RngTerm) -> Option<Ty>
     ensures { result ≡ typing.range_type types.now term.now }
 {
