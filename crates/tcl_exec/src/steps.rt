@@ -63,10 +63,15 @@ fn execute(values: &mut [i128], instr: &Instr, choice: i128)
     requires { CanBeExecuted values.old instr.now choice }
     ensures { values.new ≡ words.step_values values.old instr.now choice }
 {
-    let a = operand(values, instr, choice, 0);
-    let b = operand(values, instr, choice, 1);
-    let c = operand(values, instr, choice, 2);
-    let computed = results(instr.op, instr.ty, instr.amount, a, b, c);
+    let operands = operands(values, instr, choice);
+    let computed = results(
+        instr.op,
+        instr.ty,
+        instr.amount,
+        operands.first,
+        operands.second,
+        operands.third,
+    );
     write(values, instr.outs.as_slice(), computed);
 }
 
@@ -75,10 +80,79 @@ pub(crate) fn is_exact(values: &[i128], instr: &Instr) -> bool
     requires { CanBeExecuted values.now instr.now (pos 0) }
     ensures { result ≡ exactness.is_exact instr.now.op instr.now.ty instr.now.amount (words.operand_values values.now instr.now.args) }
 {
-    let a = operand(values, instr, 0, 0);
-    let b = operand(values, instr, 0, 1);
-    let c = operand(values, instr, 0, 2);
-    is_exact_at(instr.op, instr.ty, instr.amount, a, b, c)
+    let operands = operands(values, instr, 0);
+    is_exact_at(
+        instr.op,
+        instr.ty,
+        instr.amount,
+        operands.first,
+        operands.second,
+        operands.third,
+    )
+}
+
+/// The values of the first three operands of an instruction; 0 for each that it does not have.
+#[derive(Clone, Copy)]
+struct OperandValues {
+    first: i128,
+    second: i128,
+    third: i128,
+}
+
+/// The operands of the instruction; the choice is the operand of a `nondet`.
+fn operands(values: &[i128], instr: &Instr, choice: i128) -> OperandValues
+    ensures first { result.first ≡ nth (operands_of instr.now.op (words.operand_values values.now instr.now.args) choice) 0 }
+    ensures second { result.second ≡ nth (operands_of instr.now.op (words.operand_values values.now instr.now.args) choice) 1 }
+    ensures third { result.third ≡ nth (operands_of instr.now.op (words.operand_values values.now instr.now.args) choice) 2 }
+{
+    match instr.op {
+        Op::Nondet => OperandValues {
+            first: choice,
+            second: 0,
+            third: 0,
+        },
+        _ => arguments(values, instr.args.as_slice()),
+    }
+}
+
+/// The values of the first three of a list of operands.
+fn arguments(values: &[i128], args: &[Atom]) -> OperandValues
+    ensures first { result.first ≡ nth (words.operand_values values.now args.now) 0 }
+    ensures second { result.second ≡ nth (words.operand_values values.now args.now) 1 }
+    ensures third { result.third ≡ nth (words.operand_values values.now args.now) 2 }
+{
+    match args {
+        [] => OperandValues {
+            first: 0,
+            second: 0,
+            third: 0,
+        },
+        [first] => OperandValues {
+            first: atom_value(values, first),
+            second: 0,
+            third: 0,
+        },
+        [first, second] => OperandValues {
+            first: atom_value(values, first),
+            second: atom_value(values, second),
+            third: 0,
+        },
+        [first, second, third, ..] => OperandValues {
+            first: atom_value(values, first),
+            second: atom_value(values, second),
+            third: atom_value(values, third),
+        },
+    }
+}
+
+/// The value of an operand; 0 where it names no variable.
+fn atom_value(values: &[i128], atom: &Atom) -> i128
+    ensures { result ≡ words.atom_value values.now atom.now }
+{
+    match atom {
+        Atom::Var(variable) => value_at(values, *variable),
+        Atom::Lit(_, n) => *n,
+    }
 }
 
 /// The value of a variable; 0 where there is no such variable.
@@ -88,27 +162,6 @@ fn value_at(values: &[i128], variable: u32) -> i128
     match values.get(variable as usize) {
         Some(value) => *value,
         None => 0,
-    }
-}
-
-/// The value of operand `k`; 0 where there is none.
-fn argument(values: &[i128], args: &[Atom], k: usize) -> i128
-    ensures { result ≡ nth (words.operand_values values.now args.now) k }
-{
-    match args.get(k) {
-        Some(Atom::Var(variable)) => value_at(values, *variable),
-        Some(Atom::Lit(_, n)) => *n,
-        None => 0,
-    }
-}
-
-/// Operand `k` of the instruction; the choice is the operand of a `nondet`.
-fn operand(values: &[i128], instr: &Instr, choice: i128, k: usize) -> i128
-    ensures { result ≡ nth (operands_of instr.now.op (words.operand_values values.now instr.now.args) choice) k }
-{
-    match instr.op {
-        Op::Nondet => if k == 0 { choice } else { 0 },
-        _ => argument(values, instr.args.as_slice(), k),
     }
 }
 

@@ -11,8 +11,8 @@ pub results-computed-requires : goal.results-computed-requires
 results-computed-requires c =
     let i = c.args.instr.now in
     let operands : List ℤ = operands_of i.op (operand_values c.args.values.now i.args) c.args.choice in
-    let first : to_z w128 (of_z w128 c.operand-a.result) ≡ nth operands 0 = search rules in
-    let second : to_z w128 (of_z w128 c.operand-b.result) ≡ nth operands 1 = search rules in
-    let third : to_z w128 (of_z w128 c.operand-c.result) ≡ nth operands 2 = search rules in
+    let first : to_z w128 (of_z w128 c.operands-operands.result.first) ≡ nth operands 0 = search rules in
+    let second : to_z w128 (of_z w128 c.operands-operands.result.second) ≡ nth operands 1 = search rules in
+    let third : to_z w128 (of_z w128 c.operands-operands.result.third) ≡ nth operands 2 = search rules in
     operands_same i.op i.ty i.amount (nth operands 0) (nth operands 1) (nth operands 2) _ _ _ first second third
     (has_operands i.op i.ty i.amount operands c.requires)
