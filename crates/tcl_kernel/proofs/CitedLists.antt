@@ -1,8 +1,10 @@
 -- A fact that stands under a list of lemmas stands under those of them that it cites.
-use Rattle.std.proofs.Common.{◌≡◌, ℕ, ◌<◌, nat_eq, eqb-true, eq-eqb, refl, sym, ◌∙◌, ap, subst, arith, Bool, true, false, ◌&&◌, if◌then◌else◌, ℤ, List, [], ◌∷◌, Option, Some, None}
+use Rattle.std.proofs.Common.{◌≡◌, ℕ, ◌<◌, nat_eq, eqb-true, eq-eqb, refl, sym, ◌∙◌, ap, subst, arith, Bool, true, false, ◌&&◌, if◌then◌else◌, ℤ, All, List, [], ◌∷◌, ◌++◌, length, Option, Some, None}
 use Rattle.std.specs.Option.{is_some}
 use Rattle.std.specs.List.{list_all}
 use Rattle.std.proofs.lemmas.Bool.{and_parts, and_from}
+use Rattle.std.proofs.lemmas.List.Elements.{All-append, All-nil, All-cons}
+use Rattle.tcl_kernel.proofs.CaseLists.{all_first, all_others}
 use Rattle.std.proofs.lemmas.Bool.Decides.{nat_tests}
 use Rattle.tcl_list.proofs.Booleans.{or_left, or_right, if_no}
 use Rattle.tcl_lang.specs.declared.pred.Line.{Line}
@@ -17,12 +19,16 @@ use Rattle.tcl_goals.specs.declared.fact.Claim.TheVariants as claim
 use Rattle.tcl_goals.specs.declared.fact.Fact.{Fact}
 use Rattle.tcl_goals.specs.declared.lemma.Numbered.{Numbered}
 use Rattle.tcl_goals.specs.Places.{goal_place}
-use Rattle.tcl_goals.specs.LemmaList.{lemma_of, next_number}
+use Rattle.tcl_goals.specs.LemmaList.{lemma_of, next_number, Extends}
 use Rattle.tcl_goals.specs.Keys.{key_less, found_key, hyp_key, is_key_above, hyps_after, hyps_rise, claim_key}
 use Rattle.tcl_goals.specs.Order.{InOrder, has_hyp, is_before}
 use Rattle.tcl_goals.specs.Holds.{lemma_holds, hyp_holds, FactHolds}
-use Rattle.tcl_kernel.specs.Cited.{is_lemma, cites, cited_lemmas}
+use Rattle.tcl_board.specs.Shows.{is_lemma, AreCited}
+use Rattle.tcl_kernel.specs.Cited.{cites, cited_lemmas}
+use Rattle.tcl_goals.specs.declared.piece.Shown.{Shown}
 use Rattle.tcl_goals.specs.declared.piece.Shown.TheVariants as shown
+use Rattle.tcl_lang.specs.Correct.{IsCounterexample}
+use Rattle.tcl_kernel.specs.declared.facts.NumberedFact.{NumberedFact}
 use Rattle.tcl_kernel.specs.Shown.{Stands, ShownHolds}
 
 -- a lemma that the hypotheses do not cite has another number than one that they cite
@@ -170,3 +176,81 @@ unfolding ShownHolds
 cited_shown p q lemmas cited fact same are s =
     subst (λ r. Stands r cited fact) (sym same)
     (subst (λ (list : List Numbered). Stands p list fact) (sym are) (stands_cited p lemmas fact s))
+
+-- each lemma that is kept is cited
+kept_step : (hyps : List Hyp) (a : Numbered) (rest : List Numbered) (n : ℕ) (m : Lemma) → (lemma_of rest n ≡ Some m → cites hyps n ≡ true) → cites hyps a.number ≡ true → (b : Bool) → nat_eq a.number n ≡ b → (if b then Some a.lemma else lemma_of rest n) ≡ Some m → cites hyps n ≡ true
+kept_step hyps a rest n m further here true q e = subst (λ k. cites hyps k ≡ true) (eqb-true a.number n q) here
+kept_step hyps a rest n m further here false q e = further e
+
+kept_among : (hyps : List Hyp) (a : Numbered) (rest : List Numbered) (n : ℕ) (m : Lemma) → (lemma_of rest n ≡ Some m → cites hyps n ≡ true) → (b : Bool) → cites hyps a.number ≡ b → lemma_of (if b then a ∷ rest else rest) n ≡ Some m → cites hyps n ≡ true
+unfolding lemma_of
+kept_among hyps a rest n m further true q e = kept_step hyps a rest n m further q (nat_eq a.number n) refl e
+kept_among hyps a rest n m further false q e = further e
+
+are_cited : (hyps : List Hyp) (lemmas : List Numbered) (n : ℕ) (m : Lemma) → lemma_of (cited_lemmas hyps lemmas) n ≡ Some m → cites hyps n ≡ true
+unfolding cited_lemmas
+are_cited hyps [] n m e = absurd (none_found n m e)
+are_cited hyps (a ∷ lemmas) n m e = kept_among hyps a (cited_lemmas hyps lemmas) n m (are_cited hyps lemmas n m) (cites hyps a.number) refl e
+
+pub cited_kept : (lemmas cited : List Numbered) (fact : Fact) → cited ≡ cited_lemmas fact.hyps lemmas → AreCited cited (shown.Fact fact)
+cited_kept lemmas cited fact are =
+    subst (λ (list : List Numbered). AreCited list (shown.Fact fact)) (sym are) (λ n m e. are_cited fact.hyps lemmas n m e)
+
+-- a fact stands under each list that has the lemmas that it cites, and under a list with one more
+alike_more : (old new : List Numbered) (lines : List Line) → Extends old new → (hyps : List Hyp) → list_all (has_hyp lines old) hyps ≡ true → AreAllAlike old new hyps
+alike_more old new lines more [] e = tt
+alike_more old new lines more (hyp.Line k ∷ hyps) e = (tt, alike_more old new lines more hyps (and_parts (has_hyp lines old (hyp.Line k)) (list_all (has_hyp lines old) hyps) e).1)
+alike_more old new lines more (hyp.Lemma n ∷ hyps) e =
+    let parts = and_parts (has_hyp lines old (hyp.Lemma n)) (list_all (has_hyp lines old) hyps) e in
+    (same (lemma_of old n) refl parts.0, alike_more old new lines more hyps parts.1)
+  where
+    same : (o : Option Lemma) → lemma_of old n ≡ o → is_some o ≡ true → lemma_of new n ≡ lemma_of old n
+    same None q s = absurd (cc)
+    same (Some m) q s = more n m q ∙ sym q
+
+pub stands_more : (p : VersionedProgram) (old new : List Numbered) (fact : Fact) → Extends old new → Stands p old fact → Stands p new fact
+stands_more p old new fact more s =
+    let alike = alike_more old new p.lines more fact.hyps s.order.hyps in
+    record { order = order_alike p old new fact alike s.order; holds = holds_alike p old new fact alike s.holds }
+
+still_step : (a : Lemma) (old new : Option Lemma) (m : Lemma) → (old ≡ Some m → new ≡ Some m) → (b : Bool) → (if b then Some a else old) ≡ Some m → (if b then Some a else new) ≡ Some m
+still_step a old new m further true e = e
+still_step a old new m further false e = further e
+
+found_still : (old new : List Numbered) (n : ℕ) (m : Lemma) → lemma_of old n ≡ Some m → lemma_of (old ++ new) n ≡ Some m
+unfolding lemma_of
+found_still [] new n m e = absurd (cc)
+found_still (a ∷ old) new n m e = still_step a.lemma (lemma_of old n) (lemma_of (old ++ new) n) m (found_still old new n m) (nat_eq a.number n) e
+
+all_more : (p : VersionedProgram) (old new : List Numbered) (facts : List NumberedFact) → Extends old new → All (λ f. Stands p old f.fact) facts → All (λ f. Stands p new f.fact) facts
+all_more p old new [] more all = All-nil (λ f. Stands p new f.fact)
+all_more p old new (f ∷ facts) more all =
+    All-cons (λ g. Stands p new g.fact) f facts
+    (stands_more p old new f.fact more (all_first (λ g. Stands p old g.fact) f facts all))
+    (all_more p old new facts more (all_others (λ g. Stands p old g.fact) f facts all))
+
+pub all_added : (p : VersionedProgram) (lemmas more : List Numbered) (facts : List NumberedFact) (f : NumberedFact) → Stands p lemmas f.fact → All (λ g. Stands p lemmas g.fact) facts → All (λ g. Stands p (lemmas ++ more) g.fact) (facts ++ f ∷ [])
+all_added p lemmas more facts f stands all =
+    All-append (λ g. Stands p (lemmas ++ more) g.fact) facts (f ∷ [])
+    (all_more p lemmas (lemmas ++ more) facts (found_still lemmas more) all)
+    (All-cons (λ g. Stands p (lemmas ++ more) g.fact) f [] (stands_more p lemmas (lemmas ++ more) f.fact (found_still lemmas more) stands)
+    (All-nil (λ g. Stands p (lemmas ++ more) g.fact)))
+
+-- the same, as the code has it
+pub added_all : (p : VersionedProgram) (old lemmas more : List Numbered) (before facts : List NumberedFact) (f : NumberedFact) → facts ≡ before ++ f ∷ [] → lemmas ≡ old ++ more → Stands p old f.fact → All (λ g. Stands p old g.fact) before → All (λ g. Stands p lemmas g.fact) facts
+added_all p old lemmas more before facts f are have stands all =
+    subst (λ (list : List Numbered). All (λ g. Stands p list g.fact) facts) (sym have)
+    (subst (λ (list : List NumberedFact). All (λ g. Stands p (old ++ more) g.fact) list) (sym are) (all_added p old more before f stands all))
+
+pub shown_more : (p q : VersionedProgram) (cited lemmas : List Numbered) (sh : Shown) (fact copy : Fact) → q ≡ p → Extends cited lemmas → ShownHolds q cited sh → sh ≡ shown.Fact fact → copy ≡ fact → Stands p lemmas copy
+unfolding ShownHolds
+shown_more p q cited lemmas sh fact copy same more holds is equal =
+    subst (Stands p lemmas) (sym equal)
+    (stands_more p cited lemmas fact more (subst (λ r. Stands r cited fact) same (subst (ShownHolds q cited) is holds)))
+
+pub break_shown : (p q : VersionedProgram) (cited : List Numbered) (goal : ℕ) (input : List ℤ) → q ≡ p → cited ≡ [] → IsCounterexample (length p.variables) p.lines input goal → ShownHolds q cited (shown.Breaks goal input) × AreCited cited (shown.Breaks goal input)
+unfolding ShownHolds
+break_shown p q cited goal input same none c = (
+  subst (λ r. IsCounterexample (length r.variables) r.lines input goal) (sym same) c,
+  λ n m e. absurd (none_found n m (ap (λ (list : List Numbered). lemma_of list n) (sym none) ∙ e)),
+)

@@ -4,6 +4,8 @@ pub mod Refutations
 mod SamePolynomials
 pub mod Cofactors
 mod CofactorValues
+pub mod CaseLists
+pub mod BoardEvidence
 pub mod Soundness
 pub mod Strays
 pub mod ModelStrays

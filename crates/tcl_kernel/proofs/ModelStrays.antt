@@ -5,7 +5,7 @@ use Rattle.std.specs.List.{slice_get}
 use Rattle.tcl_list.proofs.Booleans.{or_left, or_right}
 use Rattle.tcl_cnf.specs.Literal.{value_at}
 use Rattle.tcl_cnf.specs.Clause.{Satisfies}
-use Rattle.tcl_lang.specs.declared.outcome.Truth.TheVariants.{Yes, No}
+use Rattle.tcl_lang.specs.declared.outcome.Truth.TheVariants.{No}
 use Rattle.tcl_lang.specs.declared.ty.Word.{Word}
 use Rattle.tcl_lang.specs.declared.instr.Instr.{Instr}
 use Rattle.tcl_lang.specs.declared.pred.Pred.{Pred}

@@ -37,6 +37,8 @@ use Rattle.tcl_kernel.specs.BoundsCertificate.{is_algebraic_claim, BoundsCheck, 
 use Rattle.tcl_kernel.specs.EnumerationCertificate.{EnumerationChecks, is_all, is_enumerated, enumeration_reason}
 use Rattle.tcl_kernel.proofs.Cofactors.{cofactors_exact, cofactors_sound}
 use Rattle.tcl_kernel.specs.LogCertificate.{LogCheck, has_clauses, reason_of, log_reason}
+use Rattle.tcl_kernel.specs.Laws.{AreStanding}
+use Rattle.tcl_kernel.proofs.CaseLists.{cases_exact, cases_sound}
 use Rattle.tcl_kernel.specs.Certificates.{CertificateChecks, Checks, certificate_reason, first_reason}
 
 -- there is no reason exactly where each test is met
@@ -179,6 +181,7 @@ certificate_exact p earlier fact cert.Bounds w o = bounds_exact p fact
 certificate_exact p earlier fact cert.Enumerated w o = enumeration_exact p earlier.lemmas fact w o
 certificate_exact p earlier fact (cert.Log lines) w o = log_exact p earlier.lemmas fact lines
 certificate_exact p earlier fact (cert.Cofactors lines) w o = cofactors_exact p earlier.lemmas fact lines
+certificate_exact p earlier fact (cert.Cases items) w o = cases_exact p earlier.lemmas earlier.facts fact items o
 
 pub reasons_exact : (p : VersionedProgram) (earlier : Earlier) (fact : Fact) (c : Cert) → IsWellFormed p → (first_reason p earlier fact c ≡ None) ↔ Checks p earlier fact c
 unfolding first_reason
@@ -193,14 +196,16 @@ reasons_exact p earlier fact c w = (checks, none)
     none : Checks p earlier fact c → first_of (entry_reason p earlier.lemmas fact) (certificate_reason p earlier fact c) ≡ None
     none k = none_first _ _ (order_entry p earlier.lemmas fact k.order) ((certificate_exact p earlier fact c w k.order).1 k.certificate)
 
-pub certificate_sound : (p : VersionedProgram) (earlier : Earlier) (fact : Fact) (c : Cert) → IsWellFormed p → InOrder p earlier.lemmas fact → CertificateChecks p earlier fact c → FactHolds p earlier.lemmas fact
-certificate_sound p earlier fact cert.Bounds w o k = bounds_sound p earlier.lemmas fact w k
-certificate_sound p earlier fact cert.Enumerated w o k = enumeration_sound p earlier.lemmas fact w k
-certificate_sound p earlier fact (cert.Log lines) w o k = log_sound p earlier.lemmas fact lines w o k
-certificate_sound p earlier fact (cert.Cofactors lines) w o k = cofactors_sound p earlier.lemmas fact lines w k
+pub certificate_sound : (p : VersionedProgram) (earlier : Earlier) (fact : Fact) (c : Cert) → IsWellFormed p → AreStanding p earlier → InOrder p earlier.lemmas fact → CertificateChecks p earlier fact c → FactHolds p earlier.lemmas fact
+certificate_sound p earlier fact cert.Bounds w all o k = bounds_sound p earlier.lemmas fact w k
+certificate_sound p earlier fact cert.Enumerated w all o k = enumeration_sound p earlier.lemmas fact w k
+certificate_sound p earlier fact (cert.Log lines) w all o k = log_sound p earlier.lemmas fact lines w o k
+certificate_sound p earlier fact (cert.Cofactors lines) w all o k = cofactors_sound p earlier.lemmas fact lines w k
+certificate_sound p earlier fact (cert.Cases items) w all o k = cases_sound p earlier.lemmas earlier.facts fact items all k
 
-pub checks_sound : (p : VersionedProgram) (earlier : Earlier) (fact : Fact) (c : Cert) → IsWellFormed p → Checks p earlier fact c → Stands p earlier.lemmas fact
-checks_sound p earlier fact c w k = record { order = k.order; holds = certificate_sound p earlier fact c w k.order k.certificate }
+pub checks_sound : (p : VersionedProgram) (earlier : Earlier) (fact : Fact) (c : Cert) → IsWellFormed p → AreStanding p earlier → Checks p earlier fact c → Stands p earlier.lemmas fact
+checks_sound p earlier fact c w all k =
+    record { order = k.order; holds = certificate_sound p earlier fact c w all k.order k.certificate }
 
 -- what the code has to show, in its own terms
 pub bounds_shown : (p : VersionedProgram) (fact : Fact) (bounds : List Interval) → IsWellFormed p → bounds ≡ bounds_of p fact → follows_of bounds p fact.claim ≡ true → (lemmas : List Numbered) → FactHolds p lemmas fact

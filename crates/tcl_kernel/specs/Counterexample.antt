@@ -27,7 +27,7 @@ IsBreakEnd p goal input (Some r) = IsBreakReason p goal input r
 
 -- the proof that an input refutes a goal
 abbrev pub break_proof : VersionedProgram → ℕ → List ℤ → ProofContent
-break_proof p goal input = record { program = p; cited = []; shown = shown.Breaks goal input }
+break_proof p goal input = record { program = p; cited = []; shown = shown.Breaks goal input; alone = true }
 
 -- the answer on an input: the proof exactly where the input checks, else the reason. Memory may run out
 abbrev pub IsBreakAnswer : VersionedProgram → ℕ → List ℤ → Answer → Type 0

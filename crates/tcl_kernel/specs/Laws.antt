@@ -1,5 +1,5 @@
 -- What checks give: certificates are sound, and so are checked inputs.
-use Rattle.std.specs.Prelude.{◌≡◌, ◌↔◌, ℕ, ℤ, List, length, None}
+use Rattle.std.specs.Prelude.{◌≡◌, ◌↔◌, ℕ, ℤ, All, List, length, None}
 use Rattle.tcl_lang.specs.Program.{VersionedProgram}
 use Rattle.tcl_lang.specs.Form.{IsWellFormed}
 use Rattle.tcl_lang.specs.Correct.{IsCounterexample}
@@ -17,6 +17,7 @@ use Rattle.tcl_kernel.specs.EnumerationCertificate.{EnumerationChecks}
 use Rattle.tcl_kernel.specs.LogCertificate.{LogCheck}
 use Rattle.tcl_remainder.specs.declared.lines.CofactorLine.{CofactorLine}
 use Rattle.tcl_kernel.specs.CofactorCertificate.{CofactorCheck}
+use Rattle.tcl_kernel.specs.CasesCertificate.{CasesCheck}
 use Rattle.tcl_kernel.specs.Certificates.{Checks, first_reason}
 use Rattle.tcl_kernel.specs.Counterexample.{BreakChecks}
 
@@ -53,11 +54,20 @@ CofactorsAreSound =
     (p : VersionedProgram) (lemmas : List Numbered) (fact : Fact) (lines : List CofactorLine) → IsWellFormed p →
     CofactorCheck p lemmas fact lines → FactHolds p lemmas fact
 
--- so a fact that checks stands under the lemmas, and under those that it cites
+-- the earlier facts stand under the earlier lemmas
+abbrev pub AreStanding : VersionedProgram → Earlier → Type 0
+AreStanding p earlier = All (λ n. Stands p earlier.lemmas n.fact) earlier.facts
+
+abbrev pub CasesAreSound : Type 0
+CasesAreSound =
+    (p : VersionedProgram) (earlier : Earlier) (fact : Fact) (items : List ℕ) → AreStanding p earlier →
+    CasesCheck earlier.facts fact items → FactHolds p earlier.lemmas fact
+
+-- so a fact that checks after facts that stand stands under the lemmas, and under those that it cites
 abbrev pub ChecksAreSound : Type 0
 ChecksAreSound =
-    (p : VersionedProgram) (earlier : Earlier) (fact : Fact) (c : Cert) → IsWellFormed p → Checks p earlier fact c →
-    Stands p earlier.lemmas fact
+    (p : VersionedProgram) (earlier : Earlier) (fact : Fact) (c : Cert) → IsWellFormed p → AreStanding p earlier →
+    Checks p earlier fact c → Stands p earlier.lemmas fact
 
 abbrev pub CitedAreEnough : Type 0
 CitedAreEnough =

@@ -1,5 +1,6 @@
 pub mod Shown
 pub mod Earlier
+pub mod Evidence
 pub mod Cited
 pub mod Reasons
 pub mod Entry
@@ -8,12 +9,14 @@ pub mod EnumerationCertificate
 pub mod LogCertificate
 pub mod SamePolynomials
 pub mod CofactorCertificate
+pub mod CasesCertificate
 pub mod Certificates
 pub mod Counterexample
 pub mod Trials
 pub mod PlainOutcome
 pub mod Strays
 pub mod Causes
+pub mod CauseNames
 pub mod CauseLaws
 pub mod Answers
 pub mod Laws

@@ -1,5 +1,5 @@
 -- What a proof shows, and what it says of the program.
-use Rattle.std.specs.Prelude.{List, length}
+use Rattle.std.specs.Prelude.{Bool, List, length}
 use Rattle.tcl_lang.specs.Program.{VersionedProgram}
 use Rattle.tcl_lang.specs.Correct.{IsCounterexample}
 use Rattle.tcl_goals.specs.declared.fact.Fact.{Fact}
@@ -9,11 +9,13 @@ use Rattle.tcl_goals.specs.declared.piece.Shown.TheVariants as shown
 use Rattle.tcl_goals.specs.Order.{InOrder}
 use Rattle.tcl_goals.specs.Holds.{FactHolds}
 
--- a proof: its program, the lemmas that its fact cites, and what it shows
+-- a proof: its program, the lemmas that its fact cites, what it shows, and whether it stands alone, that is rests on no
+-- earlier fact
 pub record ProofContent : Type 0 where
   pub program : VersionedProgram
   pub cited : List Numbered
   pub shown : Shown
+  pub alone : Bool
 
 -- the fact is in order for these lemmas, and holds under them
 pub record Stands (p : VersionedProgram) (lemmas : List Numbered) (fact : Fact) : Type 0 where

@@ -10,6 +10,7 @@ ghost use Rattle.tcl_kernel.specs.Certificates as words;
 
 use crate::answer::Answer;
 use crate::bounded::bounds_reason;
+use crate::cases::cases_reason;
 use crate::certificate::Cert;
 use crate::cofactored::cofactor_reason;
 use crate::entry::entry_reason;
@@ -26,10 +27,10 @@ use tcl_lang::Ssa;
 /// against it, else the first reason.
 pub fn check(alloc: Global, ssa: &Ssa, earlier: &Facts, fact: Fact, cert: Cert) -> Answer
     requires { earlier.now.program ≡ ssa.now }
-    ensures { IsAnswer (words.first_reason ssa.now earlier.now fact cert) (proof_of ssa.now earlier.now.lemmas fact) result }
+    ensures { IsAnswer (words.first_reason ssa.now earlier.now fact cert) (proof_of ssa.now earlier.now.lemmas fact (words.stands_alone cert)) result }
 {
     match first_reason(alloc, ssa, earlier, &fact, &cert) {
-        Ok(None) => proved(alloc, ssa, earlier.lemmas(), fact),
+        Ok(None) => proved(alloc, ssa, earlier.lemmas(), fact, cert.stands_alone()),
         Ok(Some(reason)) => Answer::Bad(reason),
         Err(_) => Answer::Memory,
     }
@@ -44,6 +45,7 @@ fn first_reason(
     fact: &Fact,
     cert: &Cert,
 ) -> Result<Option<Reason>, AllocError>
+    requires { earlier.now.program ≡ ssa.now }
     ensures reason { IfOk result (λ r. r ≡ words.first_reason ssa.now earlier.now fact.now cert.now) }
     ensures stands { IfOk result (λ r. r ≡ None → Stands ssa.now earlier.now.lemmas fact.now) }
 {
@@ -61,7 +63,8 @@ fn certificate_reason(
     fact: &Fact,
     cert: &Cert,
 ) -> Result<Option<Reason>, AllocError>
-    requires { InOrder ssa.now earlier.now.lemmas fact.now }
+    requires program { earlier.now.program ≡ ssa.now }
+    requires order { InOrder ssa.now earlier.now.lemmas fact.now }
     ensures reason { IfOk result (λ r. r ≡ words.certificate_reason ssa.now earlier.now fact.now cert.now) }
     ensures holds { IfOk result (λ r. r ≡ None → FactHolds ssa.now earlier.now.lemmas fact.now) }
 {
@@ -70,15 +73,16 @@ fn certificate_reason(
         Cert::Enumerated => enumeration_reason(alloc, ssa, earlier.lemmas(), fact),
         Cert::Log(lines) => log_reason(alloc, ssa, earlier.lemmas(), fact, lines),
         Cert::Cofactors(lines) => cofactor_reason(alloc, ssa, earlier.lemmas(), fact, lines),
+        Cert::Cases(items) => cases_reason(alloc, earlier, fact, items.as_slice()),
     }
 }
 
 /// The proof of a fact that stands.
-fn proved(alloc: Global, ssa: &Ssa, lemmas: &Lemmas, fact: Fact) -> Answer
+fn proved(alloc: Global, ssa: &Ssa, lemmas: &Lemmas, fact: Fact, alone: bool) -> Answer
     requires { Stands ssa.now lemmas.now.items fact }
-    ensures { IsProof (proof_of ssa.now lemmas.now.items fact) result }
+    ensures { IsProof (proof_of ssa.now lemmas.now.items fact alone) result }
 {
-    match Proof::of_fact(alloc, ssa, lemmas, fact) {
+    match Proof::of_fact(alloc, ssa, lemmas, fact, alone) {
         Ok(proof) => Answer::Proof(proof),
         Err(_) => Answer::Memory,
     }

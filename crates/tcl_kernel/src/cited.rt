@@ -1,6 +1,7 @@
 //! The lemmas that a fact cites.
 
 ghost use Rattle.std.specs.Prelude.{◌≡◌, IfOk};
+ghost use Rattle.tcl_board.specs.Shows as shows;
 ghost use Rattle.tcl_kernel.specs.Cited as cited;
 
 use std::alloc::{AllocError, Global};
@@ -34,7 +35,7 @@ fn cites(hyps: &[Hyp], number: u32) -> bool
 
 /// Whether the hypothesis is the lemma of this number.
 fn is_lemma(number: u32, hyp: &Hyp) -> bool
-    ensures { result ≡ cited.is_lemma number hyp.now }
+    ensures { result ≡ shows.is_lemma number hyp.now }
 {
     match hyp {
         Hyp::Line(_) => false,

@@ -11,12 +11,14 @@ pub fn reasons_are_exact()
     ensures reasons { laws.ReasonsAreExact }
 {}
 
-/// Each kind of certificate is sound, so a fact that checks stands under the earlier lemmas, and under those that it cites.
+/// Each kind of certificate is sound, so a fact that checks after facts that stand stands under the earlier lemmas, and under
+/// those that it cites.
 pub fn certificates_are_sound()
     ensures bounds { laws.BoundsAreSound }
     ensures enumeration { laws.EnumerationIsSound }
     ensures logs { laws.LogsAreSound }
     ensures cofactors { laws.CofactorsAreSound }
+    ensures cases { laws.CasesAreSound }
     ensures checks { laws.ChecksAreSound }
     ensures cited { laws.CitedAreEnough }
 {}

@@ -3,6 +3,7 @@
 
 mod answer;
 mod bounded;
+mod cases;
 mod certificate;
 mod checker;
 mod cited;
@@ -10,6 +11,7 @@ mod cofactored;
 mod counterexample;
 mod entry;
 mod enumerated;
+mod evidence;
 mod facts;
 mod laws;
 mod logged;
@@ -18,7 +20,7 @@ mod reason;
 mod stray;
 
 pub use answer::Answer;
-pub use certificate::Cert;
+pub use certificate::{Cert, EntryNumbers};
 pub use checker::check;
 pub use counterexample::check_break;
 pub use facts::{Facts, NumberedFact};

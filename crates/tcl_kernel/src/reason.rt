@@ -29,6 +29,10 @@ pub enum Reason {
     Cofactors,
     /// Over whole numbers the sum of the products of the norms is 2^127 or more.
     Wide,
+    /// An item is no earlier fact of the same claim, has a hypothesis or a use that the fact has not, or gives a bit another
+    /// value than the fact's cube; the cubes of the items name more than 22 different bits, or do not cover the assignments
+    /// that meet the fact's cube.
+    Cases,
     /// The input does not fit, or does not break the goal.
     Break,
 }

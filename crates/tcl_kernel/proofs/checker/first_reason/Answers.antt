@@ -7,7 +7,7 @@ use Rattle.tcl_kernel.proofs.checker.first_reason.Goals as goal
 pub certificate_reason-requires : goal.certificate_reason-requires
 certificate_reason-requires c =
     let none : entry_reason c.args.ssa.now c.args.earlier.now.lemmas c.args.fact.now ≡ None = search rules in
-    entry_order c.args.ssa.now c.args.earlier.now.lemmas c.args.fact.now none
+    record { program = c.requires; order = entry_order c.args.ssa.now c.args.earlier.now.lemmas c.args.fact.now none }
 
 pub returns-in-None-clause-stands : goal.returns-in-None-clause-stands
 returns-in-None-clause-stands c =

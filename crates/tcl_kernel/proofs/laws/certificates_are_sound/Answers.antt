@@ -1,6 +1,7 @@
 -- The laws are lemmas.
 use Rattle.tcl_kernel.proofs.Soundness.{bounds_sound, enumeration_sound, log_sound, checks_sound}
 use Rattle.tcl_kernel.proofs.Cofactors.{cofactors_sound}
+use Rattle.tcl_kernel.proofs.CaseLists.{cases_sound}
 use Rattle.tcl_kernel.proofs.CitedLists.{stands_cited}
 use Rattle.tcl_kernel.proofs.laws.certificates_are_sound.Goals as goal
 
@@ -15,6 +16,9 @@ returns-clause-logs c = log_sound
 
 pub returns-clause-cofactors : goal.returns-clause-cofactors
 returns-clause-cofactors c = cofactors_sound
+
+pub returns-clause-cases : goal.returns-clause-cases
+returns-clause-cases c = λ p earlier fact items. cases_sound p earlier.lemmas earlier.facts fact items
 
 pub returns-clause-checks : goal.returns-clause-checks
 returns-clause-checks c = checks_sound
