@@ -1,6 +1,6 @@
 pub mod TreeOperands
 pub mod TreeChains
-pub mod TextScan
+pub mod StatementScan
 pub mod TextNumber
 pub mod TextLines
 pub mod TextTokens
@@ -16,4 +16,5 @@ pub mod StatementVerdict
 pub mod TreeAnswers
 pub mod TreePredicates
 pub mod TreeTerms
+pub mod TreeFactors
 pub mod TreeRangeTerms

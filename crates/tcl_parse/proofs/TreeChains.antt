@@ -1,17 +1,17 @@
 -- Chains of operators, which a loop reads from left to right: the readings from the start are those that go on from here.
-use Rattle.std.proofs.Common.{◌≡◌, ℕ, suc, ◌<◌, ◌-◌, List, [], ◌∷◌, length, refl, sym, ap, subst, arith}
+use Rattle.std.proofs.Common.{◌≡◌, ℕ, suc, ◌<◌, ◌≤◌, ◌-◌, List, [], ◌∷◌, length, refl, sym, ap, subst, arith}
 use Rattle.std.specs.Prelude.{Some}
 use Rattle.tcl_lang.specs.declared.range.RngOp.TheVariants as range_op
 use Rattle.tcl_text.specs.declared.operator.TermOp.TheVariants as term_op
 use Rattle.tcl_text.specs.declared.operator.PredOp.TheVariants as pred_op
-use Rattle.tcl_text.specs.declared.symbol.Symbol.{Symbol}
 use Rattle.tcl_text.specs.declared.symbol.Symbol.TheVariants.{AndAnd, BarBar, Plus, Minus, Star, Ampersand, Bar, Caret}
 use Rattle.tcl_text.specs.declared.token.Token.{Token}
 use Rattle.tcl_text.specs.declared.token.Token.TheVariants.{Sign}
 use Rattle.tcl_text.specs.Trees.{Sort, alg, wrd, prd, Tree, Joint, top, height, next_height, joint_of, joined}
 use Rattle.tcl_text.specs.Grammar.{Chain, More, chain, stop, more}
 use Rattle.tcl_text.proofs.Uniqueness.{front, along, along_joint, one_chain}
-use Rattle.tcl_parse.specs.Readers.{NoReading, IsRead, NoneRead, NoSign, Closed, IsOperator, NoOperator}
+use Rattle.tcl_parse.specs.Readers.{NoReading, IsRead, NoneRead, NoSign, IsOperator, NoOperator}
+use Rattle.tcl_parse.specs.Chains.{loosest, closing, Closed}
 
 -- `left` is read from the start of `ts`, and `rest` follows
 pub record Goes (s : Sort) (n : ℕ) (ts : List Token) (left : Tree s) (rest : List Token) : Type 0 where
@@ -116,10 +116,20 @@ level_ends s level (token ∷ us) a b absent h =
     absent j.0 us (record { token = token; first = refl; tall = e; joint = j.1 }) in
     omega (arith, other)
 
-pub behind_is_shorter : {s : Sort} {n : ℕ} {ts us : List Token} {o : Joint s} → IsOperator s n ts o us → length us < length ts
-behind_is_shorter p = let e = ap length p.first in omega (arith, e)
-
 -- a tree that something else follows is not closed
-pub not_closed : {s : Sort} {n : ℕ} {symbol : Symbol} {ts vs : List Token} {u : Tree s} → n < height s (Sign symbol) →
-    IsRead s n ts u vs → NoSign symbol vs → NoReading s (Closed s n symbol) ts
-not_closed h r absent t us c = let e = one_chain r.reads r.stops c h in absent us e.rest
+closing_ends : (s : Sort) → loosest s < height s (Sign (closing s))
+closing_ends alg = omega arith
+closing_ends wrd = omega arith
+closing_ends prd = omega arith
+
+pub not_closed : {s : Sort} {ts vs : List Token} {u : Tree s} →
+    IsRead s (loosest s) ts u vs → NoSign (closing s) vs → NoReading s (Closed s) ts
+not_closed {s = s} r absent t us c = let e = one_chain r.reads r.stops c (closing_ends s) in absent us e.rest
+
+pub no_tree_closed : {s : Sort} {ts : List Token} → NoneRead s (loosest s) ts → NoReading s (Closed s) ts
+no_tree_closed {s = s} none t us c = none _ _ (record { reads = c; stops = closing_ends s })
+
+pub below_top : (s : Sort) (level : ℕ) → level ≤ loosest s → level < top s
+below_top alg level h = omega arith
+below_top wrd level h = omega arith
+below_top prd level h = omega arith

@@ -1,10 +1,10 @@
 -- Range predicates: each step of their reader, found and not found.
 use Rattle.std.proofs.Common.{◌≡◌, ◌<◌, List, [], ◌∷◌, refl, sym, ◌∙◌, ap, subst, arith}
-use Rattle.std.specs.Prelude.{Some, None}
+use Rattle.std.specs.Prelude.{Option, Some, None}
+use Rattle.tcl_lang.specs.declared.ty.Ty.{Ty}
 use Rattle.tcl_lang.specs.declared.range.CmpOp.{CmpOp}
 use Rattle.tcl_lang.specs.declared.range.RngTerm.{RngTerm}
 use Rattle.tcl_lang.specs.declared.range.RngPred.{RngPred, True as Truth, False as Falsity, Cmp}
-use Rattle.tcl_lang.specs.declared.range.RngPred.TheViews as range_pred
 use Rattle.tcl_text.specs.declared.symbol.Symbol.TheVariants.{Star, Plus, Minus, Ampersand, Bar, Caret, Bang, OpenSquare, CloseSquare}
 use Rattle.tcl_text.specs.declared.token.Token.{Token}
 use Rattle.tcl_text.specs.declared.token.Token.TheVariants.{Reserved, Sign}
@@ -12,9 +12,11 @@ use Rattle.tcl_text.specs.declared.token.Keyword.{Keyword}
 use Rattle.tcl_text.specs.declared.token.Keyword.TheVariants.{True, False}
 use Rattle.tcl_text.specs.Trees.{wrd, prd, next_height, comparison_of}
 use Rattle.tcl_text.specs.Grammar as grammar
-use Rattle.tcl_text.specs.Grammar.{Chain, Prim, factor, pred, not_pred}
-use Rattle.tcl_text.proofs.Uniqueness.{one_chain, head_is, tail_is, word_ends, compare_ends, no_words, truth as true_starts, falsity as false_starts, square as square_starts, bang as bang_starts}
-use Rattle.tcl_parse.specs.Readers.{NoReading, Ends, NoEnd, IsRead, NoneRead, NoSign, Closed, IsTruth, IsComparison, truth, falsity, compare}
+use Rattle.tcl_text.specs.Grammar.{Chain, Prim}
+use Rattle.tcl_text.proofs.Uniqueness.{one_chain, head_is, tail_is, word_ends, compare_ends, no_words}
+use Rattle.tcl_text.proofs.Uniqueness.{truth as true_starts, falsity as false_starts, square as square_starts}
+use Rattle.tcl_parse.specs.Readers.{NoReading, Ends, NoEnd, IsRead, NoneRead, NoSign, IsTruth, IsComparison, truth, falsity, compare}
+use Rattle.tcl_parse.specs.Chains.{SignAt, NoSignAt, bang, Opens, NotOpened, square, Closed}
 
 -- a predicate stops where a range term stops
 pred_ends : (us : List Token) → 5 < next_height wrd us → 0 < next_height prd us
@@ -97,29 +99,37 @@ truth_goes_on falsity z (grammar.compare c e d) h = no_words false_starts c
 pub none_behind_truth : {ts us : List Token} {p : RngPred} → IsTruth ts p us → next_height prd us ≡ 0 → NoEnd prd 0 (Prim prd) ts
 none_behind_truth t z q vs r = truth_goes_on t z r.reads r.stops
 
--- brackets
-pub read_squared : {ts vs us : List Token} {p : RngPred} → ts ≡ Sign OpenSquare ∷ vs → Closed prd 2 CloseSquare vs p us →
-    0 < next_height prd us → Ends prd 0 (Prim prd) ts p us
-read_squared {us = us} {p = p} e c h = record { reads = subst (λ l. Prim prd l p us) (sym e) (grammar.square c); stops = h }
+-- signs and brackets
+pub sign_first : {ts us : List Token} → ts ≡ Sign Bang ∷ us → SignAt prd ts Bang us
+sign_first {us = us} e = subst (λ l. SignAt prd l Bang us) (sym e) bang
 
-squared : {ts us : List Token} {p : RngPred} → NoReading prd (Closed prd 2 CloseSquare) ts → Prim prd (Sign OpenSquare ∷ ts) p us → ⊥
-squared none (grammar.square c) = none _ _ c
-squared none (grammar.compare c e d) = no_words square_starts c
+pub no_sign : {ts : List Token} → NoSign Bang ts → NoSignAt prd ts
+no_sign absent _ us bang = absent us refl
 
-pub none_squared : {ts vs : List Token} → ts ≡ Sign OpenSquare ∷ vs → NoReading prd (Closed prd 2 CloseSquare) vs → NoEnd prd 0 (Prim prd) ts
-none_squared e none p us r = squared none (subst (λ l. Prim prd l p us) e r.reads)
+pub bracket_first : {ts us : List Token} → ts ≡ Sign OpenSquare ∷ us → Opens prd ts None us
+bracket_first {us = us} e = subst (λ l. Opens prd l None us) (sym e) square
 
-square_goes_on : {ts us vs : List Token} {p q : RngPred} → Closed prd 2 CloseSquare ts p us → next_height prd us ≡ 0 →
-    Prim prd (Sign OpenSquare ∷ ts) q vs → 0 < next_height prd vs → ⊥
-square_goes_on {us = us} {vs = vs} c z (grammar.square d) h =
+pub no_bracket : {ts : List Token} → NoSign OpenSquare ts → NotOpened prd ts
+no_bracket absent _ us square = absent us refl
+
+squared : {ts us vs : List Token} {T : Option Ty} {p : RngPred} → Opens prd ts T us → Closed prd us p vs → Prim prd ts p vs
+squared square c = grammar.square c
+
+pub read_squared : {ts us vs : List Token} {T : Option Ty} {p : RngPred} →
+    Opens prd ts T us → Closed prd us p vs → 0 < next_height prd vs → Ends prd 0 (Prim prd) ts p vs
+read_squared o c h = record { reads = squared o c; stops = h }
+
+square_goes_on : {ts us vs ws : List Token} {T : Option Ty} {p q : RngPred} →
+    Opens prd ts T us → Closed prd us p vs → next_height prd vs ≡ 0 → Prim prd ts q ws → 0 < next_height prd ws → ⊥
+square_goes_on {vs = vs} {ws = ws} square c z (grammar.square d) h =
     let e = one_chain c (omega arith) d (omega arith) in
-    let k : 0 < next_height prd us = subst (λ l. 0 < next_height prd l) (sym (tail_is e.rest)) h in
+    let k : 0 < next_height prd vs = subst (λ l. 0 < next_height prd l) (sym (tail_is e.rest)) h in
     omega (arith, z)
-square_goes_on c z (grammar.compare d e f) h = no_words square_starts d
+square_goes_on square c z (grammar.compare d e f) h = no_words square_starts d
 
-pub none_behind_square : {ts vs us : List Token} {p : RngPred} → ts ≡ Sign OpenSquare ∷ vs → Closed prd 2 CloseSquare vs p us →
-    next_height prd us ≡ 0 → NoEnd prd 0 (Prim prd) ts
-none_behind_square e c z q ws r = square_goes_on c z (subst (λ l. Prim prd l q ws) e r.reads) r.stops
+pub none_behind_square : {ts us vs : List Token} {T : Option Ty} {p : RngPred} →
+    Opens prd ts T us → Closed prd us p vs → next_height prd vs ≡ 0 → NoEnd prd 0 (Prim prd) ts
+none_behind_square o c z q ws r = square_goes_on o c z r.reads r.stops
 
 -- what is neither is a comparison
 prim_compared : {ts us : List Token} {p : RngPred} → IsComparison ts p us → Prim prd ts p us
@@ -128,44 +138,13 @@ prim_compared (compare c e d) = grammar.compare c e d
 pub read_compared : {ts us : List Token} {p : RngPred} → Ends prd 0 IsComparison ts p us → Ends prd 0 (Prim prd) ts p us
 read_compared r = record { reads = prim_compared r.reads; stops = r.stops }
 
-neither : {ts us : List Token} {p : RngPred} → NoReading prd IsTruth ts → NoSign OpenSquare ts → NoEnd prd 0 IsComparison ts →
+neither : {ts us : List Token} {p : RngPred} → NoReading prd IsTruth ts → NotOpened prd ts → NoEnd prd 0 IsComparison ts →
     Prim prd ts p us → 0 < next_height prd us → ⊥
 neither a b none grammar.truth h = a _ _ truth
 neither a b none grammar.falsity h = a _ _ falsity
-neither a b none (grammar.square {ts = ts} c) h = b ts refl
+neither a b none (grammar.square c) h = b _ _ square
 neither a b none (grammar.compare c e d) h = none _ _ (record { reads = compare c e d; stops = h })
 
-pub none_primary : {ts : List Token} → NoReading prd IsTruth ts → NoSign OpenSquare ts → NoEnd prd 0 IsComparison ts →
+pub none_primary : {ts : List Token} → NoReading prd IsTruth ts → NotOpened prd ts → NoEnd prd 0 IsComparison ts →
     NoEnd prd 0 (Prim prd) ts
 none_primary a b none p us r = neither a b none r.reads r.stops
-
--- negations
-pub read_plain : {ts us : List Token} {p : RngPred} → Ends prd 0 (Prim prd) ts p us → IsRead prd 0 ts p us
-read_plain r = record { reads = factor (pred r.reads); stops = r.stops }
-
-plain : {ts us : List Token} {p : RngPred} →
-    NoSign Bang ts → NoEnd prd 0 (Prim prd) ts → Chain prd 0 ts p us → 0 < next_height prd us → ⊥
-plain absent none (factor (pred p)) h = none _ _ (record { reads = p; stops = h })
-plain absent none (factor (not_pred {ts = ts} p)) h = absent ts refl
-
-pub none_plain : {ts : List Token} → NoSign Bang ts → NoEnd prd 0 (Prim prd) ts → NoneRead prd 0 ts
-none_plain absent none p us r = plain absent none r.reads r.stops
-
-no_bang : {ts us : List Token} {p : RngPred} → Prim prd (Sign Bang ∷ ts) p us → ⊥
-no_bang (grammar.compare c e d) = no_words bang_starts c
-
-negated : {ts us : List Token} {p : RngPred} →
-    NoEnd prd 0 (Prim prd) ts → Chain prd 0 (Sign Bang ∷ ts) p us → 0 < next_height prd us → ⊥
-negated none (factor (pred p)) h = no_bang p
-negated none (factor (not_pred p)) h = none _ _ (record { reads = p; stops = h })
-
-pub none_negated : {ts vs : List Token} → ts ≡ Sign Bang ∷ vs → NoEnd prd 0 (Prim prd) vs → NoneRead prd 0 ts
-none_negated e none p us r = negated none (subst (λ l. Chain prd 0 l p us) e r.reads) r.stops
-
-pub read_negated : {ts vs us : List Token} {p b : RngPred} →
-    ts ≡ Sign Bang ∷ vs → Ends prd 0 (Prim prd) vs p us → b ≡ p → IsRead prd 0 ts (range_pred.Not b) us
-read_negated {ts = ts} {us = us} {p = p} e r d = record {
-  reads = subst (λ b. Chain prd 0 ts (range_pred.Not b) us) (sym d)
-      (subst (λ l. Chain prd 0 l (range_pred.Not p) us) (sym e) (factor (not_pred r.reads)));
-  stops = r.stops;
-}

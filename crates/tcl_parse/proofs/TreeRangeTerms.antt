@@ -1,16 +1,19 @@
 -- Range terms: each step of their reader, found and not found.
 use Rattle.std.proofs.Common.{◌≡◌, ◌<◌, List, [], ◌∷◌, refl, sym, subst, arith}
+use Rattle.std.specs.Prelude.{Option, Some, None}
 use Rattle.tcl_lang.specs.declared.ty.Ty.{Ty}
 use Rattle.tcl_lang.specs.declared.instr.Atom.{Atom}
 use Rattle.tcl_lang.specs.declared.instr.Op.TheVariants.{Cast}
 use Rattle.tcl_lang.specs.declared.range.RngTerm.{RngTerm, Leaf}
 use Rattle.tcl_lang.specs.declared.range.RngTerm.TheViews as range_term
-use Rattle.tcl_text.specs.declared.symbol.Symbol.TheVariants.{Minus, Star, Plus, Ampersand, Bar, Caret, Tilde, Open, Close, Comma}
+use Rattle.tcl_text.specs.declared.symbol.Symbol.TheVariants.{Minus, Star, Plus, Ampersand, Bar, Caret, Tilde, Open, Comma}
 use Rattle.tcl_text.specs.declared.token.Token.{Token}
 use Rattle.tcl_text.specs.declared.token.Token.TheVariants.{Kind, Instruction, Sign}
 use Rattle.tcl_text.specs.Trees.{wrd, next_height}
-use Rattle.tcl_text.specs.Grammar.{Chain, Prim, Operand, NoLiteral, factor, word, minus_word, flip_word, operand, negative, word_bracket, cast}
-use Rattle.tcl_parse.specs.Readers.{NoReading, IsRead, NoneRead, NoOperand, NoSign, Closed}
+use Rattle.tcl_text.specs.Grammar as grammar
+use Rattle.tcl_text.specs.Grammar.{Prim, Operand, NoLiteral}
+use Rattle.tcl_parse.specs.Readers.{Ends, NoEnd, NoOperand, NoSign}
+use Rattle.tcl_parse.specs.Chains.{SignAt, NoSignAt, minus_word, flip, Opens, NotOpened, word_bracket, cast, Closed}
 
 -- nothing goes on with a primary
 always : (us : List Token) → 0 < next_height wrd us
@@ -23,97 +26,54 @@ always (Sign Caret ∷ us) = omega arith
 always (Sign Bar ∷ us) = omega arith
 always (token ∷ us) = omega arith
 
+-- signs
+pub minus_first : {ts us : List Token} → (ts ≡ Sign Minus ∷ us) × NoLiteral us → SignAt wrd ts Minus us
+minus_first {us = us} e = subst (λ l. SignAt wrd l Minus us) (sym e.0) (minus_word e.1)
+
+pub flip_first : {ts us : List Token} → ts ≡ Sign Tilde ∷ us → SignAt wrd ts Tilde us
+flip_first {us = us} e = subst (λ l. SignAt wrd l Tilde us) (sym e) flip
+
+pub no_sign : {ts : List Token} →
+    ((us : List Token) → ts ≡ Sign Minus ∷ us → NoLiteral us → ⊥) → NoSign Tilde ts → NoSignAt wrd ts
+no_sign a b _ us (minus_word n) = a us refl n
+no_sign a b _ us flip = b us refl
+
 -- brackets and casts
-opened : {ts us : List Token} {t : RngTerm} →
-    NoReading wrd (Closed wrd 5 Close) ts → Prim wrd (Sign Open ∷ ts) t us → ⊥
-opened none (operand o) = elim o [ ]
-opened none (word_bracket c) = none _ _ c
+pub bracket_first : {ts us : List Token} → ts ≡ Sign Open ∷ us → Opens wrd ts None us
+bracket_first {us = us} e = subst (λ l. Opens wrd l None us) (sym e) word_bracket
 
-pub none_opened : {ts vs : List Token} →
-    ts ≡ Sign Open ∷ vs → NoReading wrd (Closed wrd 5 Close) vs → NoReading wrd (Prim wrd) ts
-none_opened e none t us p = opened none (subst (λ l. Prim wrd l t us) e p)
+pub cast_first : {T : Ty} {ts us : List Token} →
+    ts ≡ Instruction Cast ∷ Sign Open ∷ Kind T ∷ Sign Comma ∷ us → Opens wrd ts (Some T) us
+cast_first {T = T} {us = us} e = subst (λ l. Opens wrd l (Some T) us) (sym e) cast
 
-pub read_opened : {ts vs us : List Token} {t : RngTerm} → ts ≡ Sign Open ∷ vs → Closed wrd 5 Close vs t us → Prim wrd ts t us
-read_opened {us = us} {t = t} e c = subst (λ l. Prim wrd l t us) (sym e) (word_bracket c)
+pub no_bracket : {ts : List Token} → NoSign Open ts →
+    ((T : Ty) (us : List Token) → ts ≡ Instruction Cast ∷ Sign Open ∷ Kind T ∷ Sign Comma ∷ us → ⊥) → NotOpened wrd ts
+no_bracket a b _ us word_bracket = a us refl
+no_bracket a b _ us (cast {T = T}) = b T us refl
 
-casted : {T : Ty} {ts us : List Token} {t : RngTerm} → NoReading wrd (Closed wrd 5 Close) ts →
-    Prim wrd (Instruction Cast ∷ Sign Open ∷ Kind T ∷ Sign Comma ∷ ts) t us → ⊥
-casted none (operand o) = elim o [ ]
-casted none (cast c) = none _ _ c
+uncast : {ts us vs : List Token} {t : RngTerm} → Opens wrd ts None us → Closed wrd us t vs → Prim wrd ts t vs
+uncast word_bracket c = grammar.word_bracket c
 
-pub none_casted : {T : Ty} {ts vs : List Token} → ts ≡ Instruction Cast ∷ Sign Open ∷ Kind T ∷ Sign Comma ∷ vs →
-    NoReading wrd (Closed wrd 5 Close) vs → NoReading wrd (Prim wrd) ts
-none_casted e none t us p = casted none (subst (λ l. Prim wrd l t us) e p)
+pub read_opened : {ts us vs : List Token} {t : RngTerm} → Opens wrd ts None us → Closed wrd us t vs → Ends wrd 0 (Prim wrd) ts t vs
+read_opened {vs = vs} o c = record { reads = uncast o c; stops = always vs }
 
-pub read_casted : {T : Ty} {ts vs us : List Token} {t b : RngTerm} →
-    ts ≡ Instruction Cast ∷ Sign Open ∷ Kind T ∷ Sign Comma ∷ vs → Closed wrd 5 Close vs t us → b ≡ t →
-    Prim wrd ts (range_term.Cast T b) us
-read_casted {T = T} {ts = ts} {us = us} {t = t} e c d =
-    subst (λ b. Prim wrd ts (range_term.Cast T b) us) (sym d) (subst (λ l. Prim wrd l (range_term.Cast T t) us) (sym e) (cast c))
+casted : {T : Ty} {ts us vs : List Token} {t : RngTerm} →
+    Opens wrd ts (Some T) us → Closed wrd us t vs → Prim wrd ts (range_term.Cast T t) vs
+casted cast c = grammar.cast c
+
+pub read_casted : {T : Ty} {ts us vs : List Token} {t b : RngTerm} →
+    Opens wrd ts (Some T) us → Closed wrd us t vs → b ≡ t → Ends wrd 0 (Prim wrd) ts (range_term.Cast T b) vs
+read_casted {T = T} {ts = ts} {vs = vs} o c e =
+    subst (λ b. Ends wrd 0 (Prim wrd) ts (range_term.Cast T b) vs) (sym e) (record { reads = casted o c; stops = always vs })
 
 -- operands
-no_other : {ts us : List Token} {t : RngTerm} → NoSign Open ts →
-    ((T : Ty) (us : List Token) → ts ≡ Instruction Cast ∷ Sign Open ∷ Kind T ∷ Sign Comma ∷ us → ⊥) → NoOperand ts →
-    Prim wrd ts t us → ⊥
-no_other a b none (operand o) = none _ _ o
-no_other a b none (word_bracket {ts = ts} c) = a ts refl
-no_other a b none (cast {T = T} {ts = ts} c) = b T ts refl
+pub read_leaf : {ts us : List Token} {a : Atom} → Operand ts a us → Ends wrd 0 (Prim wrd) ts (Leaf a) us
+read_leaf {us = us} o = record { reads = grammar.operand o; stops = always us }
 
-pub no_primary : {ts : List Token} → NoSign Open ts →
-    ((T : Ty) (us : List Token) → ts ≡ Instruction Cast ∷ Sign Open ∷ Kind T ∷ Sign Comma ∷ us → ⊥) → NoOperand ts →
-    NoReading wrd (Prim wrd) ts
-no_primary a b none t us p = no_other a b none p
+no_other : {ts us : List Token} {t : RngTerm} → NotOpened wrd ts → NoOperand ts → Prim wrd ts t us → ⊥
+no_other absent none (grammar.operand o) = none _ _ o
+no_other absent none (grammar.word_bracket c) = absent _ _ word_bracket
+no_other absent none (grammar.cast c) = absent _ _ cast
 
-pub read_leaf : {ts us : List Token} {a : Atom} → Operand ts a us → Prim wrd ts (Leaf a) us
-read_leaf o = operand o
-
--- signs
-with_literal : {ts us : List Token} {t : RngTerm} → NoLiteral ts → Prim wrd (Sign Minus ∷ ts) t us → ⊥
-with_literal absent (operand (negative h)) = absent
-
-negated : {ts us : List Token} {t : RngTerm} →
-    NoLiteral ts → NoReading wrd (Prim wrd) ts → Chain wrd 0 (Sign Minus ∷ ts) t us → ⊥
-negated absent none (factor (word p)) = with_literal absent p
-negated absent none (factor (minus_word n p)) = none _ _ p
-
-pub none_negated : {ts vs : List Token} → (ts ≡ Sign Minus ∷ vs) × NoLiteral vs → NoReading wrd (Prim wrd) vs → NoneRead wrd 0 ts
-none_negated e none t us r = negated e.1 none (subst (λ l. Chain wrd 0 l t us) e.0 r.reads)
-
-pub read_negated : {ts vs us : List Token} {t b : RngTerm} →
-    (ts ≡ Sign Minus ∷ vs) × NoLiteral vs → Prim wrd vs t us → b ≡ t → IsRead wrd 0 ts (range_term.Neg b) us
-read_negated {ts = ts} {us = us} {t = t} e p d = record {
-  reads = subst (λ b. Chain wrd 0 ts (range_term.Neg b) us) (sym d)
-      (subst (λ l. Chain wrd 0 l (range_term.Neg t) us) (sym e.0) (factor (minus_word e.1 p)));
-  stops = always us;
-}
-
-no_flip : {ts us : List Token} {t : RngTerm} → Prim wrd (Sign Tilde ∷ ts) t us → ⊥
-no_flip (operand o) = elim o [ ]
-
-flipped : {ts us : List Token} {t : RngTerm} → NoReading wrd (Prim wrd) ts → Chain wrd 0 (Sign Tilde ∷ ts) t us → ⊥
-flipped none (factor (word p)) = no_flip p
-flipped none (factor (flip_word p)) = none _ _ p
-
-pub none_flipped : {ts vs : List Token} → ts ≡ Sign Tilde ∷ vs → NoReading wrd (Prim wrd) vs → NoneRead wrd 0 ts
-none_flipped e none t us r = flipped none (subst (λ l. Chain wrd 0 l t us) e r.reads)
-
-pub read_flipped : {ts vs us : List Token} {t b : RngTerm} →
-    ts ≡ Sign Tilde ∷ vs → Prim wrd vs t us → b ≡ t → IsRead wrd 0 ts (range_term.Flip b) us
-read_flipped {ts = ts} {us = us} {t = t} e p d = record {
-  reads = subst (λ b. Chain wrd 0 ts (range_term.Flip b) us) (sym d)
-      (subst (λ l. Chain wrd 0 l (range_term.Flip t) us) (sym e) (factor (flip_word p)));
-  stops = always us;
-}
-
-unsigned : {ts us : List Token} {t : RngTerm} → ((us : List Token) → ts ≡ Sign Minus ∷ us → NoLiteral us → ⊥) →
-    NoSign Tilde ts → NoReading wrd (Prim wrd) ts → Chain wrd 0 ts t us → ⊥
-unsigned a b none (factor (word p)) = none _ _ p
-unsigned a b none (factor (minus_word {ts = ts} n p)) = a ts refl n
-unsigned a b none (factor (flip_word {ts = ts} p)) = b ts refl
-
-pub none_unsigned : {ts : List Token} → ((us : List Token) → ts ≡ Sign Minus ∷ us → NoLiteral us → ⊥) → NoSign Tilde ts →
-    NoReading wrd (Prim wrd) ts → NoneRead wrd 0 ts
-none_unsigned a b none t us r = unsigned a b none r.reads
-
-pub read_unsigned : {ts us : List Token} {t : RngTerm} → Prim wrd ts t us → IsRead wrd 0 ts t us
-read_unsigned {us = us} p = record { reads = factor (word p); stops = always us }
+pub no_leaf : {ts : List Token} → NotOpened wrd ts → NoOperand ts → NoEnd wrd 0 (Prim wrd) ts
+no_leaf absent none t us r = no_other absent none r.reads

@@ -1,47 +1,63 @@
 -- Algebraic terms: each step of their reader, found and not found.
 use Rattle.std.proofs.Common.{◌≡◌, ℕ, ◌<◌, List, [], ◌∷◌, refl, sym, ap, ◌∙◌, subst, arith}
-use Rattle.std.specs.Prelude.{ℤ}
+use Rattle.std.specs.Prelude.{ℤ, Option, None}
+use Rattle.tcl_lang.specs.declared.ty.Ty.{Ty}
 use Rattle.tcl_lang.specs.declared.term.Term.{Term, Var, Num}
 use Rattle.tcl_lang.specs.declared.term.Term.TheViews as term
 use Rattle.tcl_text.specs.declared.symbol.Symbol.TheVariants.{StarStar, Minus, Open, Close}
 use Rattle.tcl_text.specs.declared.token.Token.{Token}
 use Rattle.tcl_text.specs.declared.token.Token.TheVariants.{Name, Number, Sign}
 use Rattle.tcl_text.specs.Trees.{alg, next_height}
-use Rattle.tcl_text.specs.Grammar.{Chain, Powered, Prim, capped, factor, power, minus_power, plain, raised, variable, number, bracket}
+use Rattle.tcl_text.specs.Grammar as grammar
+use Rattle.tcl_text.specs.Grammar.{Powered, Prim, capped, plain, raised}
 use Rattle.tcl_text.proofs.Uniqueness.{one_base, tail_is}
-use Rattle.tcl_parse.specs.Readers.{NoReading, Ends, NoEnd, IsRead, NoneRead, NoSign, Closed}
+use Rattle.tcl_parse.specs.Readers.{Ends, NoEnd, NoSign}
+use Rattle.tcl_parse.specs.Chains.{SignAt, NoSignAt, minus, Opens, NotOpened, bracket, Closed}
 
--- brackets
-opened : {ts us : List Token} {t : Term} → NoReading alg (Closed alg 2 Close) ts → Prim alg (Sign Open ∷ ts) t us → ⊥
-opened none (bracket c) = none _ _ c
+-- signs and brackets
+pub sign_first : {ts us : List Token} → ts ≡ Sign Minus ∷ us → SignAt alg ts Minus us
+sign_first {us = us} e = subst (λ l. SignAt alg l Minus us) (sym e) minus
 
-pub none_opened : {ts vs : List Token} →
-    ts ≡ Sign Open ∷ vs → NoReading alg (Closed alg 2 Close) vs → NoReading alg (Prim alg) ts
-none_opened e none t us p = opened none (subst (λ l. Prim alg l t us) e p)
+pub no_sign : {ts : List Token} → NoSign Minus ts → NoSignAt alg ts
+no_sign absent _ us minus = absent us refl
 
-pub read_opened : {ts vs us : List Token} {t : Term} → ts ≡ Sign Open ∷ vs → Closed alg 2 Close vs t us → Prim alg ts t us
-read_opened {us = us} {t = t} e c = subst (λ l. Prim alg l t us) (sym e) (bracket c)
+pub bracket_first : {ts us : List Token} → ts ≡ Sign Open ∷ us → Opens alg ts None us
+bracket_first {us = us} e = subst (λ l. Opens alg l None us) (sym e) bracket
 
--- primaries
-pub none_at_end : {ts : List Token} → ts ≡ [] → NoReading alg (Prim alg) ts
-none_at_end e t us p = let q : Prim alg [] t us = subst (λ l. Prim alg l t us) e p in elim q [ ]
+pub no_bracket : {ts : List Token} → NoSign Open ts → NotOpened alg ts
+no_bracket absent _ us bracket = absent us refl
 
-pub variable_at : {ts us : List Token} {x : ℕ} → ts ≡ Name x ∷ us → Prim alg ts (Var x) us
-variable_at {us = us} {x = x} e = subst (λ l. Prim alg l (Var x) us) (sym e) variable
+pub read_opened : {ts us vs : List Token} {T : Option Ty} {t : Term} → Opens alg ts T us → Closed alg us t vs → Prim alg ts t vs
+read_opened bracket c = grammar.bracket c
+
+-- names and numbers
+pub name_first : {ts us : List Token} {x : ℕ} → ts ≡ Name x ∷ us → Prim alg ts (Var x) us
+name_first {us = us} {x = x} e = subst (λ l. Prim alg l (Var x) us) (sym e) grammar.variable
 
 pub number_first : {ts us : List Token} {n : ℤ} {t : Term} → ts ≡ Number n ∷ us → t ≡ Num n → Prim alg ts t us
 number_first {ts = ts} {us = us} {n = n} e f =
-    subst (λ t. Prim alg ts t us) (sym f) (subst (λ l. Prim alg l (Num n) us) (sym e) number)
+    subst (λ t. Prim alg ts t us) (sym f) (subst (λ l. Prim alg l (Num n) us) (sym e) grammar.number)
 
-no_other : {token : Token} {ts us : List Token} {t : Term} → NoSign Open (token ∷ ts) → ((x : ℕ) → token ≡ Name x → ⊥) →
+no_base : {ts us : List Token} {t : Term} → ((u : Term) (vs : List Token) → Prim alg ts u vs → ⊥) → Powered ts t us → ⊥
+no_base none (plain p) = none _ _ p
+no_base none (raised p) = none _ _ p
+
+nothing : {us : List Token} {t : Term} → Prim alg [] t us → ⊥
+nothing p = elim p [ ]
+
+pub none_at_end : {ts : List Token} → ts ≡ [] → NoEnd alg 0 Powered ts
+none_at_end e t us r = no_base (λ u vs p. nothing p) (subst (λ l. Powered l t us) e r.reads)
+
+no_other : {token : Token} {ts us : List Token} {t : Term} → NotOpened alg (token ∷ ts) → ((x : ℕ) → token ≡ Name x → ⊥) →
     ((n : ℤ) → token ≡ Number n → ⊥) → Prim alg (token ∷ ts) t us → ⊥
-no_other a b c (variable {x = x}) = b x refl
-no_other a b c (number {n = n}) = c n refl
-no_other a b c (bracket {ts = ts} p) = a ts refl
+no_other a b c (grammar.variable {x = x}) = b x refl
+no_other a b c (grammar.number {n = n}) = c n refl
+no_other a b c (grammar.bracket p) = a _ _ bracket
 
-pub no_primary : {token : Token} {ts us : List Token} → NoSign Open ts → ts ≡ token ∷ us → ((x : ℕ) → token ≡ Name x → ⊥) →
-    ((n : ℤ) → token ≡ Number n → ⊥) → NoReading alg (Prim alg) ts
-no_primary a e b c t us p = no_other (subst (NoSign Open) e a) b c (subst (λ l. Prim alg l t us) e p)
+pub no_primary : {token : Token} {ts us : List Token} → NotOpened alg ts → ts ≡ token ∷ us → ((x : ℕ) → token ≡ Name x → ⊥) →
+    ((n : ℤ) → token ≡ Number n → ⊥) → NoEnd alg 0 Powered ts
+no_primary a e b c t us r =
+    no_base (λ u vs p. no_other (subst (NotOpened alg) e a) b c p) (subst (λ l. Powered l t us) e r.reads)
 
 -- exponents
 no_power_next : (us : List Token) → NoSign StarStar us → 0 < next_height alg us
@@ -88,34 +104,3 @@ one_exponent {ts = ts} {ws = ws} {t = t} {n = n} {k = k} p e f h d g =
       reads = subst (λ b. Powered ts (term.Pow b k) ws) (sym d) (subst (λ k. Powered ts (term.Pow t k) ws) (sym g) q);
       stops = h;
     }
-
--- signs
-pub read_unsigned : {ts us : List Token} {t : Term} → Ends alg 0 Powered ts t us → IsRead alg 0 ts t us
-read_unsigned r = record { reads = factor (power r.reads); stops = r.stops }
-
-unsigned : {ts us : List Token} {t : Term} →
-    NoSign Minus ts → NoEnd alg 0 Powered ts → Chain alg 0 ts t us → 0 < next_height alg us → ⊥
-unsigned absent none (factor (power p)) h = none _ _ (record { reads = p; stops = h })
-unsigned absent none (factor (minus_power {ts = ts} p)) h = absent ts refl
-
-pub none_unsigned : {ts : List Token} → NoSign Minus ts → NoEnd alg 0 Powered ts → NoneRead alg 0 ts
-none_unsigned absent none t us r = unsigned absent none r.reads r.stops
-
-no_minus : {ts us : List Token} {t : Term} → Powered (Sign Minus ∷ ts) t us → ⊥
-no_minus (plain p) = elim p [ ]
-no_minus (raised p) = elim p [ ]
-
-signed : {ts us : List Token} {t : Term} →
-    NoEnd alg 0 Powered ts → Chain alg 0 (Sign Minus ∷ ts) t us → 0 < next_height alg us → ⊥
-signed none (factor (power p)) h = no_minus p
-signed none (factor (minus_power p)) h = none _ _ (record { reads = p; stops = h })
-
-pub none_signed : {ts vs : List Token} → ts ≡ Sign Minus ∷ vs → NoEnd alg 0 Powered vs → NoneRead alg 0 ts
-none_signed e none t us r = signed none (subst (λ l. Chain alg 0 l t us) e r.reads) r.stops
-
-pub read_signed : {ts vs us : List Token} {t b : Term} →
-    ts ≡ Sign Minus ∷ vs → Ends alg 0 Powered vs t us → b ≡ t → IsRead alg 0 ts (term.Neg b) us
-read_signed {ts = ts} {us = us} {t = t} e r d = record {
-  reads = subst (λ b. Chain alg 0 ts (term.Neg b) us) (sym d) (subst (λ l. Chain alg 0 l (term.Neg t) us) (sym e) (factor (minus_power r.reads)));
-  stops = r.stops;
-}

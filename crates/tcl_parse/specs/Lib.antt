@@ -1,4 +1,5 @@
 pub mod Readers
+pub mod Chains
 pub mod StatementReaders
 pub mod TextSteps
 pub mod TextProgress

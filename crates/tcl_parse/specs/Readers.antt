@@ -1,6 +1,6 @@
 -- What the readers of trees answer. The grammar is a relation between the tokens of a line, a tree that they begin with, and
 -- the tokens behind it; where no operator goes on behind the tree, there is at most one.
-use Rattle.std.specs.Prelude.{◌≡◌, ℕ, ◌<◌, List, ◌∷◌, Some}
+use Rattle.std.specs.Prelude.{◌≡◌, ℕ, ◌<◌, List, ◌∷◌, Option, Some, Result, IfOk, IfSome, MatchOption}
 use Rattle.tcl_lang.specs.declared.instr.Atom.{Atom}
 use Rattle.tcl_lang.specs.declared.range.CmpOp.{CmpOp}
 use Rattle.tcl_lang.specs.declared.range.RngTerm.{RngTerm}
@@ -12,12 +12,21 @@ use Rattle.tcl_text.specs.declared.symbol.Symbol.{Symbol}
 use Rattle.tcl_text.specs.Trees.{Sort, wrd, Tree, Joint, height, next_height, joint_of, comparison_of}
 use Rattle.tcl_text.specs.Grammar.{Chain, Operand}
 
+-- out of memory, or what is said where nothing is found and of what is found
+abbrev pub Found : {A E : Type 0} → Result (Option A) E → Type 0 → (A → Type 0) → Type 0
+Found result none some = IfOk result (λ answer. MatchOption answer none some)
+
+-- what is said of what is found
+abbrev pub OnFound : {A E : Type 0} → Result (Option A) E → (A → Type 0) → Type 0
+OnFound result some = IfOk result (λ answer. IfSome answer some)
+
 -- the tokens have no reading of one kind
 abbrev pub NoReading : (s : Sort) → (List Token → Tree s → List Token → Type 0) → List Token → Type 0
 NoReading s Reads ts = (t : Tree s) (us : List Token) → Reads ts t us → ⊥
 
 -- a reading of one kind, behind which no operator up to this height goes on
-pub record Ends (s : Sort) (n : ℕ) (Reads : List Token → Tree s → List Token → Type 0) (ts : List Token) (t : Tree s) (us : List Token) : Type 0 where
+pub record Ends (s : Sort) (n : ℕ) (Reads : List Token → Tree s → List Token → Type 0)
+    (ts : List Token) (t : Tree s) (us : List Token) : Type 0 where
   pub reads : Reads ts t us
   pub stops : n < next_height s us
 
@@ -40,10 +49,6 @@ NoOperand ts = (a : Atom) (us : List Token) → Operand ts a us → ⊥
 -- the tokens do not begin with this symbol
 abbrev pub NoSign : Symbol → List Token → Type 0
 NoSign symbol ts = (us : List Token) → ts ≡ Sign symbol ∷ us → ⊥
-
--- the tree is closed by a symbol
-abbrev pub Closed : (s : Sort) → ℕ → Symbol → List Token → Tree s → List Token → Type 0
-Closed s n symbol ts t us = Chain s n ts t (Sign symbol ∷ us)
 
 -- the tokens begin with an operator of this height
 pub record IsOperator (s : Sort) (n : ℕ) (ts : List Token) (o : Joint s) (us : List Token) : Type 0 where

@@ -9,7 +9,6 @@ pub(crate) mod parser;
 mod pieces;
 mod progress;
 mod reading;
-pub(crate) mod scan;
 mod symbols;
 mod tokens;
 mod words;

@@ -1,6 +1,6 @@
-// Terms and predicates, and the operands of instructions, by recursive descent. Operators that stand side by side are read
-// in a loop, so that only brackets nest calls.
+// Terms and predicates, and the operands of instructions, by recursive descent.
 
+pub(crate) mod chains;
 pub(crate) mod operands;
 pub(crate) mod range_predicates;
 pub(crate) mod range_terms;

@@ -1,8 +1,9 @@
 // Instructions behind their word and type: names, operands and an amount, as many as the form has.
 
-ghost use Rattle.std.specs.Prelude.{◌≡◌, IfOk, MatchOption};
+ghost use Rattle.std.specs.Prelude.{◌≡◌, MatchOption};
 ghost use Rattle.tcl_lang.specs.Shape as shape;
 ghost use Rattle.tcl_text.specs.Statements as grammar;
+ghost use Rattle.tcl_parse.specs.Readers.{Found};
 ghost use Rattle.tcl_parse.specs.StatementReaders.{NoNames, NoOperands, NoAmount, NoForm};
 
 use crate::statement::tokens::{ends, name_at};
@@ -13,13 +14,13 @@ use tcl_lang::{Args, Instr, Op, Outs, Ty};
 use tcl_list::Listing;
 use tcl_text::Token;
 
+/// So many names, and the tokens behind them.
 fn names(
     alloc: Global,
     tokens: &[Token],
     count: usize,
 ) -> Result<Option<Reading<'_, Outs>>, AllocError>
-    ensures exact { IfOk result (λ answer. MatchOption answer
-        (NoNames count tokens.now) (λ r. grammar.Names count tokens.now r.tree r.rest.now)) }
+    ensures exact { Found result (NoNames count tokens.now) (λ r. grammar.Names count tokens.now r.tree r.rest.now) }
 {
     let mut names = Listing::new(alloc);
     let mut left = count;
@@ -35,13 +36,13 @@ fn names(
     Ok(Some(Reading { tree: names, rest }))
 }
 
+/// So many operands, and the tokens behind them.
 fn operands(
     alloc: Global,
     tokens: &[Token],
     count: usize,
 ) -> Result<Option<Reading<'_, Args>>, AllocError>
-    ensures exact { IfOk result (λ answer. MatchOption answer
-        (NoOperands count tokens.now) (λ r. grammar.Operands count tokens.now r.tree r.rest.now)) }
+    ensures exact { Found result (NoOperands count tokens.now) (λ r. grammar.Operands count tokens.now r.tree r.rest.now) }
 {
     let mut atoms = Listing::new(alloc);
     let mut left = count;
@@ -57,13 +58,14 @@ fn operands(
     Ok(Some(Reading { tree: atoms, rest }))
 }
 
+/// The instruction has an amount.
 fn has_amount(op: Op) -> bool
     ensures { result ≡ shape.has_amount op }
 {
     matches!(op, Op::Shl | Op::Split)
 }
 
-// An amount where there is one, up to the end of the line.
+/// An amount where there is one, up to the end of the line.
 fn amount(tokens: &[Token], expected: bool) -> Option<u32>
     ensures exact { MatchOption result (NoAmount expected tokens.now) (λ n. grammar.Amount expected tokens.now n) }
 {
@@ -84,8 +86,7 @@ pub(crate) fn form(
     ty: Ty,
     tokens: &[Token],
 ) -> Result<Option<Instr>, AllocError>
-    ensures exact { IfOk result (λ answer. MatchOption answer
-        (NoForm op ty tokens.now) (λ instr. grammar.Form op ty tokens.now instr)) }
+    ensures exact { Found result (NoForm op ty tokens.now) (λ instr. grammar.Form op ty tokens.now instr) }
 {
     let Some(outs) = names(alloc, tokens, op.result_count())? else {
         return Ok(None);

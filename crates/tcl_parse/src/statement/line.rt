@@ -5,12 +5,13 @@ ghost use Rattle.tcl_text.specs.declared.token.Keyword.TheVariants as keyword;
 ghost use Rattle.tcl_text.specs.declared.token.Token.TheVariants as token;
 ghost use Rattle.tcl_text.specs.Statements.{IsStatement};
 ghost use Rattle.tcl_text.specs.Verdict.{Judged};
+ghost use Rattle.tcl_parse.specs.Readers.{Found};
 ghost use Rattle.tcl_parse.specs.StatementReaders.{stated_line, kept_statement, NoStatement};
 
 use crate::statement::instruction::form;
 use crate::statement::predicate::predicate;
+use crate::statement::scan::{has_too_many_operators, keeps_exponents, nests_too_deep};
 use crate::statement::tokens::{ends, name_at, type_at};
-use crate::text::scan::{has_too_many_operators, is_low_statement, nests_too_deep};
 use crate::tree::reader::first_of;
 use std::alloc::{AllocError, Global};
 use tcl_lang::{Line, Op, Pred};
@@ -18,8 +19,7 @@ use tcl_text::{Keyword, Limit, LineFault, Statement, Token};
 
 /// The statement that a line of tokens is.
 pub(crate) fn statement(alloc: Global, tokens: &[Token]) -> Result<Option<Statement>, AllocError>
-    ensures exact { IfOk result (λ answer. MatchOption answer
-        (NoStatement tokens.now) (λ s. IsStatement tokens.now s)) }
+    ensures exact { Found result (NoStatement tokens.now) (λ s. IsStatement tokens.now s) }
 {
     let Some((first, behind)) = first_of(tokens) else {
         return Ok(None);
@@ -33,10 +33,10 @@ pub(crate) fn statement(alloc: Global, tokens: &[Token]) -> Result<Option<Statem
     }
 }
 
-// An instruction behind its word.
+/// An instruction behind its word.
 fn step(alloc: Global, op: Op, tokens: &[Token]) -> Result<Option<Statement>, AllocError>
-    ensures exact { IfOk result (λ answer. MatchOption answer
-        (NoStatement (token.Instruction op ∷ tokens.now)) (λ s. IsStatement (token.Instruction op ∷ tokens.now) s)) }
+    ensures exact { Found result
+        (NoStatement (token.Instruction op ∷ tokens.now)) (λ s. IsStatement (token.Instruction op ∷ tokens.now) s) }
 {
     let Some((ty, behind)) = type_at(tokens) else {
         return Ok(None);
@@ -47,7 +47,7 @@ fn step(alloc: Global, op: Op, tokens: &[Token]) -> Result<Option<Statement>, Al
     }
 }
 
-// An input behind its word.
+/// An input behind its word.
 fn input(tokens: &[Token]) -> Option<Statement>
     ensures exact { MatchOption result
         (NoStatement (token.Reserved keyword.In ∷ tokens.now))
@@ -66,7 +66,7 @@ fn input(tokens: &[Token]) -> Option<Statement>
     }
 }
 
-// The last line behind its word.
+/// The last line behind its word.
 fn end(tokens: &[Token]) -> Option<Statement>
     ensures exact { MatchOption result
         (NoStatement (token.Reserved keyword.End ∷ tokens.now))
@@ -79,12 +79,12 @@ fn end(tokens: &[Token]) -> Option<Statement>
     }
 }
 
-// A predicate behind the word of its line.
+/// A predicate behind the word of its line.
 fn stated(alloc: Global, word: Keyword, tokens: &[Token]) -> Result<Option<Statement>, AllocError>
     requires no_input { word ≢ keyword.In }
     requires no_end { word ≢ keyword.End }
-    ensures exact { IfOk result (λ answer. MatchOption answer
-        (NoStatement (token.Reserved word ∷ tokens.now)) (λ s. IsStatement (token.Reserved word ∷ tokens.now) s)) }
+    ensures exact { Found result
+        (NoStatement (token.Reserved word ∷ tokens.now)) (λ s. IsStatement (token.Reserved word ∷ tokens.now) s) }
 {
     let Some(pred) = predicate(alloc, tokens)? else {
         return Ok(None);
@@ -95,7 +95,7 @@ fn stated(alloc: Global, word: Keyword, tokens: &[Token]) -> Result<Option<State
     }
 }
 
-// The line that a word makes of a predicate.
+/// The line that a word makes of a predicate.
 fn line_of(word: Keyword, pred: Pred) -> Option<Line>
     ensures { result ≡ stated_line word pred }
 {
@@ -128,11 +128,11 @@ pub(crate) fn judge(
     Ok(kept(statement))
 }
 
-// The verdict on a statement by its exponents.
+/// The verdict on a statement by its exponents.
 fn kept(statement: Statement) -> Result<Statement, LineFault>
     ensures { result ≡ kept_statement statement }
 {
-    if is_low_statement(&statement) {
+    if keeps_exponents(&statement) {
         return Ok(statement);
     }
     drop(statement);

@@ -1,9 +1,10 @@
 // Moduli: sums and differences of numbers and of powers of numbers, up to the end of the line.
 
-ghost use Rattle.std.specs.Prelude.{◌≡◌, Bool, List, ◌∷◌, IfOk, MatchOption};
+ghost use Rattle.std.specs.Prelude.{◌≡◌, Bool, List, ◌∷◌, MatchOption};
 ghost use Rattle.tcl_text.specs.declared.token.Token.{Token};
 ghost use Rattle.tcl_text.specs.declared.token.Token.TheVariants.{Sign};
 ghost use Rattle.tcl_text.specs.Statements as grammar;
+ghost use Rattle.tcl_parse.specs.Readers.{Found};
 ghost use Rattle.tcl_parse.specs.StatementReaders.{sign_of, IsPart, NoPart, NoModulus};
 
 use crate::statement::tokens::ends;
@@ -13,6 +14,7 @@ use tcl_lang::{Modulus, Part};
 use tcl_list::Listing;
 use tcl_text::{Symbol, Token};
 
+/// A part of a modulus.
 fn part(minus: bool, base: &i128, power: Option<u32>) -> Part
     ensures { result ≡ record { minus = minus; base = base.now; power = power } }
 {
@@ -23,7 +25,7 @@ fn part(minus: bool, base: &i128, power: Option<u32>) -> Part
     }
 }
 
-// A part behind its sign. A power of a power is no part.
+/// A part behind its sign. A power of a power is no part.
 fn one_part(minus: bool, tokens: &[Token]) -> Option<Reading<'_, Part>>
     ensures exact { MatchOption result (NoPart minus tokens.now) (λ r. IsPart minus tokens.now r.tree r.rest.now) }
 {
@@ -48,7 +50,7 @@ fn one_part(minus: bool, tokens: &[Token]) -> Option<Reading<'_, Part>>
     }
 }
 
-// The sign of a further part, and the tokens behind it.
+/// The sign of a further part, and the tokens behind it.
 fn sign_at(tokens: &[Token]) -> Option<(bool, &[Token])>
     ensures { MatchOption result
         ((minus : Bool) (us : List Token) → tokens.now ≡ Sign (sign_of minus) ∷ us → ⊥)
@@ -64,8 +66,7 @@ fn sign_at(tokens: &[Token]) -> Option<(bool, &[Token])>
 
 /// A modulus, up to the end of the line.
 pub(crate) fn modulus(alloc: Global, tokens: &[Token]) -> Result<Option<Modulus>, AllocError>
-    ensures exact { IfOk result (λ answer. MatchOption answer
-        (NoModulus tokens.now) (λ parts. grammar.Modulus tokens.now parts)) }
+    ensures exact { Found result (NoModulus tokens.now) (λ parts. grammar.Modulus tokens.now parts) }
 {
     let Some(first) = one_part(false, tokens) else {
         return Ok(None);

@@ -1,9 +1,10 @@
 // Predicates, up to the end of the line.
 
-ghost use Rattle.std.specs.Prelude.{◌≡◌, ◌∷◌, IfOk, MatchOption};
+ghost use Rattle.std.specs.Prelude.{◌∷◌};
 ghost use Rattle.tcl_text.specs.declared.token.Keyword.TheVariants as keyword;
 ghost use Rattle.tcl_text.specs.declared.token.Token.TheVariants.{Reserved};
 ghost use Rattle.tcl_text.specs.Statements as grammar;
+ghost use Rattle.tcl_parse.specs.Readers.{Found};
 ghost use Rattle.tcl_parse.specs.StatementReaders.{Ending, NoEnding, Equation, NoEquation, NoPredicate};
 
 use crate::statement::modulus::modulus;
@@ -17,8 +18,7 @@ use tcl_text::{Keyword, Symbol, Token};
 
 /// A predicate behind the word of its line.
 pub(crate) fn predicate(alloc: Global, tokens: &[Token]) -> Result<Option<Pred>, AllocError>
-    ensures exact { IfOk result (λ answer. MatchOption answer
-        (NoPredicate tokens.now) (λ p. grammar.Predicate tokens.now p)) }
+    ensures exact { Found result (NoPredicate tokens.now) (λ p. grammar.Predicate tokens.now p) }
 {
     let Some((first, behind)) = first_of(tokens) else {
         return Ok(None);
@@ -30,9 +30,10 @@ pub(crate) fn predicate(alloc: Global, tokens: &[Token]) -> Result<Option<Pred>,
     }
 }
 
+/// A range predicate behind its word.
 fn range(alloc: Global, tokens: &[Token]) -> Result<Option<Pred>, AllocError>
-    ensures exact { IfOk result (λ answer. MatchOption answer
-        (NoPredicate (Reserved keyword.Rng ∷ tokens.now)) (λ p. grammar.Predicate (Reserved keyword.Rng ∷ tokens.now) p)) }
+    ensures exact { Found result
+        (NoPredicate (Reserved keyword.Rng ∷ tokens.now)) (λ p. grammar.Predicate (Reserved keyword.Rng ∷ tokens.now) p) }
 {
     let Some(pred) = range_pred(alloc, tokens)? else {
         return Ok(None);
@@ -44,9 +45,10 @@ fn range(alloc: Global, tokens: &[Token]) -> Result<Option<Pred>, AllocError>
     }
 }
 
+/// An algebraic predicate behind its word.
 fn algebraic(alloc: Global, tokens: &[Token]) -> Result<Option<Pred>, AllocError>
-    ensures exact { IfOk result (λ answer. MatchOption answer
-        (NoPredicate (Reserved keyword.Alg ∷ tokens.now)) (λ p. grammar.Predicate (Reserved keyword.Alg ∷ tokens.now) p)) }
+    ensures exact { Found result
+        (NoPredicate (Reserved keyword.Alg ∷ tokens.now)) (λ p. grammar.Predicate (Reserved keyword.Alg ∷ tokens.now) p) }
 {
     match equation(alloc, tokens)? {
         Some(pred) => Ok(Some(Pred::Alg(pred))),
@@ -54,9 +56,9 @@ fn algebraic(alloc: Global, tokens: &[Token]) -> Result<Option<Pred>, AllocError
     }
 }
 
-// An equation, or a congruence.
+/// An equation, or a congruence.
 fn equation(alloc: Global, tokens: &[Token]) -> Result<Option<AlgPred>, AllocError>
-    ensures exact { IfOk result (λ answer. MatchOption answer (NoEquation tokens.now) (λ p. Equation tokens.now p)) }
+    ensures exact { Found result (NoEquation tokens.now) (λ p. Equation tokens.now p) }
 {
     let Some(left) = term(alloc, tokens)? else {
         return Ok(None);
@@ -77,9 +79,9 @@ fn equation(alloc: Global, tokens: &[Token]) -> Result<Option<AlgPred>, AllocErr
     }))
 }
 
-// What stands behind the right side of an equation: nothing, or a modulus.
+/// What stands behind the right side of an equation: nothing, or a modulus.
 fn ending(alloc: Global, tokens: &[Token]) -> Result<Option<Option<Modulus>>, AllocError>
-    ensures exact { IfOk result (λ answer. MatchOption answer (NoEnding tokens.now) (λ m. Ending tokens.now m)) }
+    ensures exact { Found result (NoEnding tokens.now) (λ m. Ending tokens.now m) }
 {
     let Some((first, behind)) = first_of(tokens) else {
         return Ok(Some(None));
@@ -90,10 +92,10 @@ fn ending(alloc: Global, tokens: &[Token]) -> Result<Option<Option<Modulus>>, Al
     }
 }
 
-// A modulus behind its word.
+/// A modulus behind its word.
 fn residue(alloc: Global, tokens: &[Token]) -> Result<Option<Option<Modulus>>, AllocError>
-    ensures exact { IfOk result (λ answer. MatchOption answer
-        (NoEnding (Reserved keyword.Mod ∷ tokens.now)) (λ m. Ending (Reserved keyword.Mod ∷ tokens.now) m)) }
+    ensures exact { Found result
+        (NoEnding (Reserved keyword.Mod ∷ tokens.now)) (λ m. Ending (Reserved keyword.Mod ∷ tokens.now) m) }
 {
     match modulus(alloc, tokens)? {
         Some(parts) => Ok(Some(Some(parts))),

@@ -9,6 +9,7 @@ use crate::tree::reader::first_of;
 use tcl_lang::Ty;
 use tcl_text::Token;
 
+/// A name that stands first, and the tokens behind it.
 pub(crate) fn name_at(tokens: &[Token]) -> Option<(u32, &[Token])>
     ensures { MatchOption result
         ((x : ℕ) (us : List Token) → tokens.now ≡ token.Name x ∷ us → ⊥)
@@ -21,6 +22,7 @@ pub(crate) fn name_at(tokens: &[Token]) -> Option<(u32, &[Token])>
     }
 }
 
+/// A type that stands first, and the tokens behind it.
 pub(crate) fn type_at(tokens: &[Token]) -> Option<(Ty, &[Token])>
     ensures { MatchOption result
         ((T : Ty) (us : List Token) → tokens.now ≡ token.Kind T ∷ us → ⊥)
@@ -33,7 +35,7 @@ pub(crate) fn type_at(tokens: &[Token]) -> Option<(Ty, &[Token])>
     }
 }
 
-// No token is left.
+/// No token is left.
 pub(crate) fn ends(tokens: &[Token]) -> bool
     ensures { MatchBool result (tokens.now ≡ []) (tokens.now ≡ [] → ⊥) }
 {

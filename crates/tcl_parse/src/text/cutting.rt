@@ -11,21 +11,24 @@ use std::alloc::{AllocError, Global};
 use tcl_list::Listing;
 use tcl_text::{Cut, Raw};
 
-// Bytes of a word behind its first one.
+/// Bytes of a word behind its first one.
 const MORE_WORD_BYTES: usize = 63;
 
+/// A byte that a word may begin with.
 fn is_word_start(byte: u8) -> bool
     ensures { result ≡ tokens.is_word_start byte }
 {
     byte.is_ascii_alphabetic() || byte == b'_'
 }
 
+/// A byte that a word may go on with.
 fn is_word_byte(byte: u8) -> bool
     ensures { result ≡ tokens.is_word_byte byte }
 {
     byte.is_ascii_alphabetic() || byte == b'_' || is_digit(byte)
 }
 
+/// How many bytes at the front may stand in a word.
 fn word_length(bytes: &[u8]) -> usize
     ensures length { result ≡ prefix_len tokens.is_word_byte bytes.now }
     ensures within { result ≤ length bytes.now }
@@ -33,6 +36,7 @@ fn word_length(bytes: &[u8]) -> usize
     bytes.iter().take_while(|byte| is_word_byte(**byte)).count()
 }
 
+/// A word of at most 64 bytes.
 #[tactic(auto, unfolding(tcl_text::specs::Tokens::word_cut))]
 fn word_cut(alloc: Global, first: u8, others: &[u8]) -> Result<Option<Cut>, AllocError>
     ensures cut { IfOk result (λ cut. cut ≡ tokens.word_cut first others.now) }
@@ -51,6 +55,7 @@ fn word_cut(alloc: Global, first: u8, others: &[u8]) -> Result<Option<Cut>, Allo
     }))
 }
 
+/// A number up to `2^127 - 1`.
 #[tactic(auto, unfolding(tcl_text::specs::Tokens::number_cut))]
 fn number_cut(first: u8, others: &[u8]) -> Option<Cut>
     ensures cut { result ≡ tokens.number_cut first others.now }
@@ -66,7 +71,7 @@ fn number_cut(first: u8, others: &[u8]) -> Option<Cut>
     }
 }
 
-// The token that begins with the byte `first`, if it is allowed.
+/// The token that begins with the byte `first`, if it is allowed.
 #[tactic(auto, unfolding(tcl_text::specs::Tokens::cut_of))]
 pub(crate) fn cut_of(alloc: Global, first: u8, others: &[u8]) -> Result<Option<Cut>, AllocError>
     ensures cut { IfOk result (λ cut. cut ≡ tokens.cut_of first others.now) }

@@ -1,16 +1,18 @@
 // Decimal numbers.
 
-ghost use Rattle.std.specs.Prelude.{◌≡◌, ◌≤◌, ◌+◌, ◌-◌, ◌*◌, ◌^◌, ◌∷◌, length, nat_lt, pos, if◌then◌else◌, MatchOption, None, Some};
+ghost use Rattle.std.specs.Prelude.{◌≡◌, ◌≤◌, ◌+◌, ◌-◌, ◌*◌, ◌^◌, ◌∷◌, length, nat_lt, pos, if◌then◌else◌};
+ghost use Rattle.std.specs.Prelude.{MatchOption, None, Some};
 ghost use Rattle.std.specs.List.{prefix_len};
 ghost use Rattle.tcl_text.specs.Tokens as tokens;
 
+/// A byte from `0` to `9`.
 pub(crate) fn is_digit(byte: u8) -> bool
     ensures { result ≡ tokens.is_digit byte }
 {
     b'0' <= byte && byte <= b'9'
 }
 
-// How many digits stand at the front.
+/// How many digits stand at the front.
 pub(crate) fn digit_count(bytes: &[u8]) -> usize
     ensures count { result ≡ prefix_len tokens.is_digit bytes.now }
     ensures within { result ≤ length bytes.now }
@@ -18,9 +20,10 @@ pub(crate) fn digit_count(bytes: &[u8]) -> usize
     bytes.iter().take_while(|byte| is_digit(**byte)).count()
 }
 
-// The number with these digits, up to `2^127 - 1`.
+/// The number with these digits, up to `2^127 - 1`.
 pub(crate) fn number_of(first: u8, digits: &[u8]) -> Option<i128>
-    ensures { result ≡ (if nat_lt (tokens.value_of (first ∷ digits.now)) (2 ^ 127) then Some (pos (tokens.value_of (first ∷ digits.now))) else None) }
+    ensures { result ≡ (if nat_lt (tokens.value_of (first ∷ digits.now)) (2 ^ 127)
+        then Some (pos (tokens.value_of (first ∷ digits.now))) else None) }
 {
     let mut value = u128::from(first.saturating_sub(b'0'));
     for digit in digits {
@@ -35,6 +38,7 @@ pub(crate) fn number_of(first: u8, digits: &[u8]) -> Option<i128>
     }
 }
 
+/// The number with one digit more, below `2^128`.
 fn with_digit(value: u128, digit: u8) -> Option<u128>
     ensures { MatchOption result (2 ^ 128 ≤ 10 * value + (digit - 48)) (λ n. n ≡ 10 * value + (digit - 48)) }
 {

@@ -9,13 +9,16 @@ ghost use Rattle.tcl_parse.specs.TextLimits as text;
 use tcl_lang::Line;
 use tcl_text::Limit;
 
+/// The most instructions of a program.
 const INSTRUCTIONS: usize = 4096;
 
+/// The most definitions of a program.
 const VARIABLES: usize = 8192;
 
+/// The most goals of a program.
 const GOALS: usize = 4096;
 
-// The first limit that is exceeded.
+/// The first limit that is exceeded.
 pub(crate) fn exceeded_limit(lines: &[Line]) -> Option<Limit>
     ensures { result ≡ text.exceeded_limit lines.now }
 {
@@ -30,6 +33,7 @@ pub(crate) fn exceeded_limit(lines: &[Line]) -> Option<Limit>
     }
 }
 
+/// How many lines are instructions.
 fn instruction_count(lines: &[Line]) -> usize
     ensures { result ≡ limit.instruction_count lines.now }
 {
@@ -42,12 +46,14 @@ fn instruction_count(lines: &[Line]) -> usize
     count
 }
 
+/// The line is an instruction.
 fn is_instruction(line: &Line) -> bool
     ensures { result ≡ limit.is_instruction_line line.now }
 {
     matches!(line, Line::Step(_))
 }
 
+/// How many goals the lines have.
 fn goal_count(lines: &[Line]) -> usize
     ensures { result ≡ goals lines.now }
 {
@@ -60,6 +66,7 @@ fn goal_count(lines: &[Line]) -> usize
     count
 }
 
+/// The lines define more names than a program may.
 fn has_too_many_definitions(lines: &[Line]) -> bool
     ensures { result ≡ nat_lt 8192 (limit.definition_count lines.now) }
 {
@@ -74,6 +81,7 @@ fn has_too_many_definitions(lines: &[Line]) -> bool
     false
 }
 
+/// How many names a line defines.
 fn definition_count(line: &Line) -> usize
     ensures { result ≡ length (defined_names line.now) }
 {

@@ -5,9 +5,10 @@ ghost use Rattle.tcl_text.specs.Lines as lines;
 
 use crate::text::pieces::{behind, front};
 
-// The first line, without its end, and what stands behind it.
+/// The first line, without its end, and what stands behind it.
 pub(crate) fn split_line(bytes: &[u8]) -> Option<(&[u8], &[u8])>
-    ensures pieces { MatchOption result (lines.lines_of bytes.now ≡ []) (λ r. lines.lines_of bytes.now ≡ r.0.now ∷ lines.lines_of r.1.now) }
+    ensures pieces { MatchOption result (lines.lines_of bytes.now ≡ [])
+        (λ r. lines.lines_of bytes.now ≡ r.0.now ∷ lines.lines_of r.1.now) }
     ensures shorter { IfSome result (λ r. length r.1.now < length bytes.now) }
 {
     if bytes.is_empty() {
@@ -23,6 +24,7 @@ pub(crate) fn split_line(bytes: &[u8]) -> Option<(&[u8], &[u8])>
     ))
 }
 
+/// How many bytes stand before the end of the first line.
 fn line_length(bytes: &[u8]) -> usize
     ensures length { result ≡ lines.line_length bytes.now }
     ensures within { result ≤ length bytes.now }
@@ -30,6 +32,7 @@ fn line_length(bytes: &[u8]) -> usize
     bytes.iter().take_while(|byte| **byte != b'\n').count()
 }
 
+/// A line without the carriage return that ends it.
 fn without_return(line: &[u8]) -> &[u8]
     ensures { result.now ≡ lines.without_return line.now }
 {

@@ -11,7 +11,7 @@ use tcl_lang::Names;
 use tcl_list::Listing;
 use tcl_text::{Raw, Token};
 
-// The names so far, by their numbers.
+/// The names so far, by their numbers.
 #[derive(Drop)]
 pub(crate) struct NameTable {
     names: IndexSet<Vec<u8>>,
@@ -19,7 +19,7 @@ pub(crate) struct NameTable {
 
 impl Model for NameTable {
     ghost use Rattle.std.specs.Prelude.{ℕ, List, map};
-    ghost use Rattle.std.specs.Coded.{coded_list, codes};
+    ghost use Rattle.std.specs.Coded.{codes};
 
     ghost Value = { List (List ℕ) };
 
@@ -29,6 +29,7 @@ impl Model for NameTable {
 }
 
 impl NameTable {
+    /// No names.
     pub fn new(alloc: Global) -> Self
         ensures { result ≡ [] }
     {
@@ -37,6 +38,7 @@ impl NameTable {
         }
     }
 
+    /// The number of a name. A new name gets the next number.
     fn enter(&mut self, name: Vec<u8>) -> Result<usize, AllocError>
         ensures number { IfOk result (λ n. n ≡ numbering.number_of self.old name.items) }
         ensures names { OnOk result (self.new ≡ numbering.with_name self.old name.items) }
@@ -47,6 +49,7 @@ impl NameTable {
         Ok(number)
     }
 
+    /// The number of a name by its bytes.
     fn number_of(&mut self, alloc: Global, name: &[u8]) -> Result<u32, AllocError>
         ensures number { IfOk result (λ n. n ≡ numbering.number_of self.old name.now) }
         ensures names { OnOk result (self.new ≡ numbering.with_name self.old name.now) }
@@ -57,6 +60,7 @@ impl NameTable {
         }
     }
 
+    /// The token that a raw token is. A new name gets the next number.
     fn token_of(&mut self, alloc: Global, raw: &Raw) -> Result<Token, AllocError>
         ensures token { IfOk result (λ token. token ≡ numbering.token_of self.old raw.now) }
         ensures names { OnOk result (self.new ≡ numbering.names_after_token self.old raw.now) }
@@ -71,7 +75,7 @@ impl NameTable {
         }
     }
 
-    // The tokens of a line. New names get the next numbers.
+    /// The tokens of a line. New names get the next numbers.
     pub fn tokens_of(&mut self, alloc: Global, raws: &[Raw]) -> Result<Listing<Token>, AllocError>
         ensures tokens { IfOk result (λ tokens. tokens ≡ numbering.tokens_of self.old raws.now) }
         ensures names { OnOk result (self.new ≡ numbering.names_after self.old raws.now) }
@@ -83,6 +87,7 @@ impl NameTable {
         Ok(tokens)
     }
 
+    /// The names by their numbers.
     pub fn names(&self, alloc: Global) -> Result<Names, AllocError>
         ensures { IfOk result (λ names. names ≡ self.now) }
     {
@@ -90,6 +95,7 @@ impl NameTable {
     }
 }
 
+/// Copies of the names.
 fn names_of(alloc: Global, keys: &[Vec<u8>]) -> Result<Names, AllocError>
     ensures { IfOk result (λ names. names ≡ map (λ key. key.items) keys.now) }
 {

@@ -26,8 +26,10 @@ pub fn parse(alloc: Global, bytes: &[u8]) -> Result<Parsed, ParseFault>
     ensures reads { IfOk result (λ p. Reads bytes.now p) }
     ensures limits { IfOk result (λ p. KeepsLimits p.program.lines) }
     ensures fault { IfErr result (λ fault. Says bytes.now fault) }
-    ensures accepts { (p : ReadProgram) → Reads bytes.now p → KeepsLimits p.program.lines → MatchResult result (λ q. q ≡ p) (λ fault. fault ≡ ParseFault.Memory) }
-    ensures refuses { (fault : ParseFault) → fault ≢ ParseFault.Memory → Says bytes.now fault → MatchResult result (λ _. ⊥) (λ answer. IsOrMemory answer fault) }
+    ensures accepts { (p : ReadProgram) → Reads bytes.now p → KeepsLimits p.program.lines →
+        MatchResult result (λ q. q ≡ p) (λ fault. fault ≡ ParseFault.Memory) }
+    ensures refuses { (fault : ParseFault) → fault ≢ ParseFault.Memory → Says bytes.now fault →
+        MatchResult result (λ _. ⊥) (λ answer. IsOrMemory answer fault) }
 {
     match read(alloc, bytes) {
         Ok(Ok(progress)) => program_of_text(alloc, progress),
@@ -36,6 +38,7 @@ pub fn parse(alloc: Global, bytes: &[u8]) -> Result<Parsed, ParseFault>
     }
 }
 
+/// The refusal of a text by the fault of its first faulty line.
 fn refusal_of(fault: TextFault) -> ParseFault
     ensures { result ≡ refusal_spec fault }
 {
@@ -46,10 +49,13 @@ fn refusal_of(fault: TextFault) -> ParseFault
     }
 }
 
+/// The program that was read, or the first limit that it exceeds.
 fn program_of_text(alloc: Global, progress: Progress) -> Result<Parsed, ParseFault>
     requires shape { HasShape progress.names progress.lines }
     requires numbers { length progress.places ≡ length progress.lines }
-    ensures { MatchResult result (λ p. (p ≡ program_of (progress_of progress)) × (limits.exceeded_limit progress.lines ≡ None)) (IsAnswer (limits.exceeded_limit progress.lines)) }
+    ensures { MatchResult result
+        (λ p. (p ≡ program_of (progress_of progress)) × (limits.exceeded_limit progress.lines ≡ None))
+        (IsAnswer (limits.exceeded_limit progress.lines)) }
 {
     if let Some(limit) = exceeded_limit(progress.lines.as_slice()) {
         return Err(ParseFault::Limit(limit));

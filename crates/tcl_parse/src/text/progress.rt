@@ -16,12 +16,13 @@ use tcl_lang::{Line, Lines, Places};
 use tcl_list::Listing;
 use tcl_text::{LineFault, Statement, TextFault};
 
-// The part of the text behind `end`.
+/// The part of the text behind `end`.
 const LAST_STAGE: u32 = 4;
 
-// Texts of more lines are out of memory.
+/// Texts of more lines are out of memory.
 const LINES: u64 = 4_294_967_294;
 
+/// What was read of a text before a line.
 #[derive(Drop)]
 pub(crate) struct Progress {
     pub number: u64,
@@ -32,6 +33,7 @@ pub(crate) struct Progress {
 }
 
 impl Progress {
+    /// Nothing was read: the next line is the first.
     pub fn start(alloc: Global) -> Self
         ensures { progress_of result ≡ text.start }
     {
@@ -44,16 +46,18 @@ impl Progress {
         }
     }
 
-    // `end` was not read.
+    /// `end` was not read.
     pub fn is_open(&self) -> bool
         ensures { result ≡ nat_lt self.now.stage 4 }
     {
         self.stage < LAST_STAGE
     }
 
-    // Reads one line more, or finds its fault. After a fault the progress means nothing.
+    /// Reads one line more, or finds its fault. After a fault the progress means nothing.
     pub fn step(&mut self, alloc: Global, line: &[u8]) -> Result<Result<(), TextFault>, AllocError>
-        ensures verdict { IfOk result (λ verdict. MatchResult verdict (λ _. Steps (progress_of self.old) line.now (progress_of self.new)) (λ fault. Stops (progress_of self.old) line.now fault)) }
+        ensures verdict { IfOk result (λ verdict. MatchResult verdict
+            (λ _. Steps (progress_of self.old) line.now (progress_of self.new))
+            (λ fault. Stops (progress_of self.old) line.now fault)) }
         ensures few { IfOk result (λ verdict. IsOk verdict → self.new.number ≤ 2 ^ 32 - 1) }
     {
         if LINES < self.number {
@@ -73,10 +77,13 @@ impl Progress {
         }
     }
 
-    // Puts a statement into its place, if it is there.
+    /// Puts a statement into its place, if it is there.
     fn place(&mut self, statement: Statement) -> Result<Result<(), TextFault>, AllocError>
         requires { self.old.number ≤ 2 ^ 32 - 2 }
-        ensures verdict { IfOk result (λ verdict. MatchResult verdict (λ _. (text.may_follow self.old.stage statement ≡ true) × (progress_of self.new ≡ text.continued (progress_of self.old) self.old.names statement)) (λ fault. (text.may_follow self.old.stage statement ≡ false) × (fault ≡ text_fault.Shape self.old.number))) }
+        ensures verdict { IfOk result (λ verdict. MatchResult verdict
+            (λ _. (text.may_follow self.old.stage statement ≡ true) ×
+            (progress_of self.new ≡ text.continued (progress_of self.old) self.old.names statement))
+            (λ fault. (text.may_follow self.old.stage statement ≡ false) × (fault ≡ text_fault.Shape self.old.number))) }
         ensures few { IfOk result (λ _. self.new.number ≤ 2 ^ 32 - 1) }
     {
         let number = self.number;
@@ -92,6 +99,7 @@ impl Progress {
         }
     }
 
+    /// Puts a line behind those before it.
     fn put(&mut self, line: Line) -> Result<(), AllocError>
         requires { self.old.number ≤ 2 ^ 32 - 2 }
         ensures number { OnOk result (self.new.number ≡ self.old.number + 1) }
@@ -107,6 +115,7 @@ impl Progress {
         Ok(())
     }
 
+    /// Reads `end`.
     fn end(&mut self)
         requires { self.old.number ≤ 2 ^ 32 - 2 }
         ensures progress { progress_of self.new ≡ text.continued (progress_of self.old) self.old.names statement.End }
@@ -117,6 +126,7 @@ impl Progress {
     }
 }
 
+/// The statement may stand behind lines of this stage.
 fn may_follow(stage: u32, statement: &Statement) -> bool
     ensures { result ≡ text.may_follow stage statement.now }
 {

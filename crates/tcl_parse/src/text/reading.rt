@@ -1,16 +1,15 @@
 // A whole text, line by line.
 
-ghost use Rattle.std.specs.Prelude.{◌≡◌, length, not, nat_lt, IfOk, MatchResult};
-ghost use Rattle.tcl_lang.specs.Shape.{HasShape};
+ghost use Rattle.std.specs.Prelude.{IfOk, MatchResult};
 ghost use Rattle.tcl_text.specs.Reading as text;
-ghost use Rattle.tcl_parse.specs.TextProgress.{progress_of, IsWhole};
+ghost use Rattle.tcl_parse.specs.TextProgress.{IsWhole};
 
 use crate::text::lines::split_line;
 use crate::text::progress::Progress;
 use std::alloc::{AllocError, Global};
 use tcl_text::TextFault;
 
-// What the text reads as, or its first fault.
+/// What the text reads as, or its first fault.
 pub(crate) fn read(alloc: Global, bytes: &[u8]) -> Result<Result<Progress, TextFault>, AllocError>
     ensures { IfOk result (λ verdict. MatchResult verdict (IsWhole bytes.now) (text.FirstFault bytes.now)) }
 {

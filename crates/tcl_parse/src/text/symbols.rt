@@ -5,6 +5,7 @@ ghost use Rattle.tcl_text.specs.Tokens as tokens;
 
 use tcl_text::{Cut, Raw, Symbol};
 
+/// A symbol of two bytes.
 fn long_symbol(first: u8, second: u8) -> Option<Symbol>
     ensures { result ≡ tokens.long_symbol first second }
 {
@@ -19,6 +20,7 @@ fn long_symbol(first: u8, second: u8) -> Option<Symbol>
     }
 }
 
+/// A symbol of one byte.
 fn short_symbol(byte: u8) -> Option<Symbol>
     ensures { result ≡ tokens.short_symbol byte }
 {
@@ -44,7 +46,7 @@ fn short_symbol(byte: u8) -> Option<Symbol>
     }
 }
 
-// 0 where there is none.
+/// 0 where there is none.
 fn next_byte(bytes: &[u8]) -> u8
     ensures { result ≡ tokens.next_byte bytes.now }
 {
@@ -54,7 +56,7 @@ fn next_byte(bytes: &[u8]) -> u8
     }
 }
 
-// A symbol of two bytes is taken before one of one byte.
+/// A symbol of two bytes is taken before one of one byte.
 #[tactic(auto, unfolding(tcl_text::specs::Tokens::symbol_cut))]
 pub(crate) fn symbol_cut(first: u8, others: &[u8]) -> Option<Cut>
     ensures cut { result ≡ tokens.symbol_cut first others.now }

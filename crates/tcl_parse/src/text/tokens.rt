@@ -9,13 +9,14 @@ use std::alloc::{AllocError, Global};
 use tcl_list::Listing;
 use tcl_text::Raw;
 
+/// A space or a tab.
 fn is_blank(byte: u8) -> bool
     ensures { result ≡ tokens.is_blank byte }
 {
     byte == b' ' || byte == b'\t'
 }
 
-// None where a byte or a token is not allowed.
+/// None where a byte or a token is not allowed.
 pub(crate) fn raws_of(alloc: Global, line: &[u8]) -> Result<Option<Listing<Raw>>, AllocError>
     ensures { IfOk result (λ raws. raws ≡ tokens.raws_of line.now) }
 {

@@ -7,6 +7,7 @@ ghost use Rattle.tcl_text.specs.Words as words;
 use tcl_lang::{Op, Ty};
 use tcl_text::{Keyword, Token};
 
+/// The instructions.
 const OPS: [Op; 23] = [
     Op::Mov,
     Op::Add,
@@ -33,6 +34,7 @@ const OPS: [Op; 23] = [
     Op::Nondet,
 ];
 
+/// The reserved words that are no instruction and no type.
 const KEYWORDS: [Keyword; 16] = [
     Keyword::In,
     Keyword::Pre,
@@ -52,6 +54,7 @@ const KEYWORDS: [Keyword; 16] = [
     Keyword::Call,
 ];
 
+/// How an instruction is written.
 fn word_of_op(op: Op) -> &'static str
     ensures { result.now ≡ words.word_of_op op }
 {
@@ -82,6 +85,7 @@ fn word_of_op(op: Op) -> &'static str
     }
 }
 
+/// How a reserved word is written.
 fn word_of_keyword(keyword: Keyword) -> &'static str
     ensures { result.now ≡ words.word_of_keyword keyword }
 {
@@ -105,24 +109,28 @@ fn word_of_keyword(keyword: Keyword) -> &'static str
     }
 }
 
+/// The bytes are the word of the instruction.
 fn is_word_of_op(word: &[u8], op: Op) -> bool
     ensures { result ≡ bytes_eq word.now (words.word_of_op op) }
 {
     word == word_of_op(op).as_bytes()
 }
 
+/// The bytes are the reserved word.
 fn is_word_of_keyword(word: &[u8], keyword: Keyword) -> bool
     ensures { result ≡ bytes_eq word.now (words.word_of_keyword keyword) }
 {
     word == word_of_keyword(keyword).as_bytes()
 }
 
+/// The first of the instructions that is written so.
 fn first_op(word: &[u8], ops: &[Op]) -> Option<Op>
     ensures { result ≡ find (λ op. bytes_eq word.now (words.word_of_op op)) ops.now }
 {
     ops.iter().copied().find(|op| is_word_of_op(word, *op))
 }
 
+/// The first of the reserved words that is written so.
 fn first_keyword(word: &[u8], keywords: &[Keyword]) -> Option<Keyword>
     ensures { result ≡ find (λ keyword. bytes_eq word.now (words.word_of_keyword keyword)) keywords.now }
 {
@@ -132,18 +140,21 @@ fn first_keyword(word: &[u8], keywords: &[Keyword]) -> Option<Keyword>
         .find(|keyword| is_word_of_keyword(word, *keyword))
 }
 
+/// The instruction that is written so.
 fn op_of_word(word: &[u8]) -> Option<Op>
     ensures { result ≡ words.op_of_word word.now }
 {
     first_op(word, &OPS)
 }
 
+/// The reserved word that is written so.
 fn keyword_of_word(word: &[u8]) -> Option<Keyword>
     ensures { result ≡ words.keyword_of_word word.now }
 {
     first_keyword(word, &KEYWORDS)
 }
 
+/// Whether the types with this first byte are signed.
 fn sign_of_byte(byte: u8) -> Option<bool>
     ensures { result ≡ words.sign_of_byte byte }
 {
@@ -154,6 +165,7 @@ fn sign_of_byte(byte: u8) -> Option<bool>
     }
 }
 
+/// The type of a width up to 64 bits. A signed one has at least 2.
 fn checked_type(sign: Option<bool>, width: u32) -> Option<Ty>
     ensures { result ≡ words.checked_type sign width }
 {
@@ -170,6 +182,7 @@ fn checked_type(sign: Option<bool>, width: u32) -> Option<Ty>
     }
 }
 
+/// A type whose width has one digit.
 fn short_type(sign: u8, digit: u8) -> Option<Ty>
     ensures { result ≡ words.short_type sign digit }
 {
@@ -179,6 +192,7 @@ fn short_type(sign: u8, digit: u8) -> Option<Ty>
     }
 }
 
+/// A type whose width has two digits.
 fn long_type(sign: u8, ten: u8, one: u8) -> Option<Ty>
     ensures { result ≡ words.long_type sign ten one }
 {
@@ -193,6 +207,7 @@ fn long_type(sign: u8, ten: u8, one: u8) -> Option<Ty>
     }
 }
 
+/// The type that is written so.
 fn type_of_word(word: &[u8]) -> Option<Ty>
     ensures { result ≡ words.type_of_word word.now }
 {
@@ -205,7 +220,7 @@ fn type_of_word(word: &[u8]) -> Option<Ty>
     }
 }
 
-// None where the word is a name.
+/// None where the word is a name.
 #[tactic(auto, unfolding(tcl_text::specs::Words::meaning_of))]
 pub(crate) fn meaning_of(word: &[u8]) -> Option<Token>
     ensures { result ≡ words.meaning_of word.now }

@@ -13,7 +13,7 @@ use crate::tree::reader::{Reading, first_of};
 use tcl_lang::{Atom, Ty};
 use tcl_text::{Symbol, Token};
 
-// `@` and a type.
+/// `@` and a type.
 fn type_at(tokens: &[Token]) -> Option<(Ty, &[Token])>
     ensures { MatchOption result
         ((T : Ty) (us : List Token) → tokens.now ≡ Sign At ∷ Kind T ∷ us → ⊥)
@@ -30,14 +30,14 @@ fn type_at(tokens: &[Token]) -> Option<(Ty, &[Token])>
     Some((*ty, rest))
 }
 
-// The atom of a literal.
+/// The atom of a literal.
 fn lit(ty: Ty, n: &i128) -> Atom
     ensures { result ≡ Lit ty n.now }
 {
     Atom::Lit(ty, *n)
 }
 
-// The atom of a literal below zero.
+/// The atom of a literal below zero.
 fn lit_below(ty: Ty, n: &i128) -> Atom
     requires { pos 0 <ℤ n.now }
     ensures { result ≡ Lit ty (neg_ℤ n.now) }
@@ -45,13 +45,14 @@ fn lit_below(ty: Ty, n: &i128) -> Atom
     Atom::Lit(ty, -*n)
 }
 
+/// The number is above zero.
 fn is_above_zero(n: &i128) -> bool
     ensures { MatchBool result (pos 0 <ℤ n.now) (pos 0 <ℤ n.now → ⊥) }
 {
     *n > 0
 }
 
-// A literal behind its number.
+/// A literal behind its number.
 fn literal<'a>(n: &'a i128, behind: &'a [Token]) -> Option<Reading<'a, Atom>>
     ensures exact { MatchOption result (NoOperand (Number n.now ∷ behind.now))
         (λ r. Operand (Number n.now ∷ behind.now) r.tree r.rest.now) }
@@ -64,7 +65,7 @@ fn literal<'a>(n: &'a i128, behind: &'a [Token]) -> Option<Reading<'a, Atom>>
     })
 }
 
-// A literal behind its `-`.
+/// A literal behind its `-`.
 fn negative(behind: &[Token]) -> Option<Reading<'_, Atom>>
     ensures exact { MatchOption result (NoOperand (Sign Minus ∷ behind.now))
         (λ r. Operand (Sign Minus ∷ behind.now) r.tree r.rest.now) }

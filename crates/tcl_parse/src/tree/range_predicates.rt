@@ -1,66 +1,111 @@
-// Range predicates: `||` over `&&` over factors. A factor is a primary with `!` before it.
+// Range predicates: `||` over `&&` over factors. A base is a comparison, a truth value or a predicate in square brackets.
 
-ghost use Rattle.std.specs.Prelude.{◌≡◌, ◌≤◌, ◌<◌, ◌∷◌, length, MatchBool, MatchOption, IfOk, IfSome, List};
-ghost use Rattle.tcl_lang.specs.declared.range.CmpOp.{CmpOp};
-ghost use Rattle.tcl_lang.specs.declared.range.RngPred.{RngPred};
-ghost use Rattle.tcl_text.specs.declared.symbol.Symbol.TheVariants.{CloseSquare};
-ghost use Rattle.tcl_text.specs.declared.token.Token.{Token};
-ghost use Rattle.tcl_text.specs.Trees.{prd, height, next_height, joint_of, joined, comparison_of};
-ghost use Rattle.tcl_text.specs.Grammar.{Prim};
-ghost use Rattle.tcl_parse.specs.Readers.{NoReading, Ends, NoEnd, IsRead, NoneRead, Closed, IsOperator, NoOperator, IsTruth, IsComparison};
+ghost use Rattle.std.specs.Prelude.{◌≡◌, ◌<◌, length, MatchBool, MatchOption, IfSome};
+ghost use Rattle.tcl_text.specs.Trees.{prd, next_height, comparison_of};
+ghost use Rattle.tcl_parse.specs.Readers.{Found, OnFound, NoReading, Ends, NoEnd, IsRead, NoneRead, IsTruth, IsComparison};
 
+use crate::tree::chains::{Chained, chain};
 use crate::tree::range_terms::range_term;
 use crate::tree::reader::{Reading, behind_sign, first_of};
 use sqlite_items::Boxed;
 use std::alloc::{AllocError, Global};
-use tcl_lang::{CmpOp, RngPred};
+use tcl_lang::{CmpOp, RngPred, Ty};
 use tcl_text::{Keyword, PredOp, Symbol, Token};
 
-// How loosely a token binds: 0 goes on with a range term, 1 and 2 are the operators, and 3 ends a predicate.
-fn height_of(token: &Token) -> usize
-    ensures { result ≡ height prd token.now }
-{
-    match token {
-        Token::Sign(Symbol::Star | Symbol::Plus | Symbol::Minus) => 0,
-        Token::Sign(Symbol::Ampersand | Symbol::Caret | Symbol::Bar) => 0,
-        Token::Sign(Symbol::AndAnd) => 1,
-        Token::Sign(Symbol::BarBar) => 2,
-        _ => 3,
+impl Chained for RngPred {
+    type Joint = PredOp;
+
+    ghost use Rattle.tcl_text.specs.Trees.{prd};
+
+    ghost sort = { prd };
+
+    ghost tree = { λ t. t };
+
+    ghost joint = { λ op. op };
+
+    fn loosest() -> usize {
+        2
+    }
+
+    fn closing() -> Symbol {
+        Symbol::CloseSquare
+    }
+
+    /// 0 goes on with a range term, 1 and 2 are the operators, and 3 ends a predicate.
+    fn height_of(token: &Token) -> usize {
+        match token {
+            Token::Sign(Symbol::Star | Symbol::Plus | Symbol::Minus) => 0,
+            Token::Sign(Symbol::Ampersand | Symbol::Caret | Symbol::Bar) => 0,
+            Token::Sign(Symbol::AndAnd) => 1,
+            Token::Sign(Symbol::BarBar) => 2,
+            _ => 3,
+        }
+    }
+
+    fn operator_of(token: &Token) -> Option<PredOp> {
+        match token {
+            Token::Sign(Symbol::AndAnd) => Some(PredOp::And),
+            Token::Sign(Symbol::BarBar) => Some(PredOp::Or),
+            _ => None,
+        }
+    }
+
+    fn joined(
+        alloc: Global,
+        op: PredOp,
+        left: RngPred,
+        right: RngPred,
+    ) -> Result<RngPred, AllocError> {
+        let left = Boxed::new(alloc, left)?;
+        let right = Boxed::new(alloc, right)?;
+        match op {
+            PredOp::And => Ok(RngPred::Both(left, right)),
+            PredOp::Or => Ok(RngPred::Either(left, right)),
+        }
+    }
+
+    fn sign_at(tokens: &[Token]) -> Option<(Symbol, &[Token])> {
+        let behind = behind_sign(Symbol::Bang, tokens)?;
+        Some((Symbol::Bang, behind))
+    }
+
+    fn signed(alloc: Global, _sign: Symbol, base: RngPred) -> Result<RngPred, AllocError> {
+        Ok(RngPred::Not(Boxed::new(alloc, base)?))
+    }
+
+    fn opening(tokens: &[Token]) -> Option<(Option<Ty>, &[Token])> {
+        let inside = behind_sign(Symbol::OpenSquare, tokens)?;
+        Some((None, inside))
+    }
+
+    /// A truth value or a comparison.
+    fn unbracketed(
+        alloc: Global,
+        tokens: &[Token],
+    ) -> Result<Option<Reading<'_, RngPred>>, AllocError> {
+        let Some(found) = truth_at(tokens) else {
+            return comparison(alloc, tokens);
+        };
+        if begins_with_word_operator(found.rest) {
+            return Ok(None);
+        }
+        Ok(Some(found))
+    }
+
+    fn bracketed(
+        _alloc: Global,
+        _cast: Option<Ty>,
+        inner: RngPred,
+        rest: &[Token],
+    ) -> Result<Option<Reading<'_, RngPred>>, AllocError> {
+        if begins_with_word_operator(rest) {
+            return Ok(None);
+        }
+        Ok(Some(Reading { tree: inner, rest }))
     }
 }
 
-fn operator_of(token: &Token) -> Option<PredOp>
-    ensures { result ≡ joint_of prd token.now }
-{
-    match token {
-        Token::Sign(Symbol::AndAnd) => Some(PredOp::And),
-        Token::Sign(Symbol::BarBar) => Some(PredOp::Or),
-        _ => None,
-    }
-}
-
-// An operator of this height that stands first, and the tokens behind it.
-fn operator_at(level: usize, tokens: &[Token]) -> Option<(PredOp, &[Token])>
-    ensures { MatchOption result (NoOperator prd level tokens.now) (λ r. IsOperator prd level tokens.now r.0 r.1.now) }
-{
-    let (first, behind) = first_of(tokens)?;
-    if height_of(first) != level {
-        return None;
-    }
-    Some((operator_of(first)?, behind))
-}
-
-fn joined(alloc: Global, op: PredOp, left: RngPred, right: RngPred) -> Result<RngPred, AllocError>
-    ensures { IfOk result (λ p. p ≡ joined prd op left right) }
-{
-    let left = Boxed::new(alloc, left)?;
-    let right = Boxed::new(alloc, right)?;
-    match op {
-        PredOp::And => Ok(RngPred::Both(left, right)),
-        PredOp::Or => Ok(RngPred::Either(left, right)),
-    }
-}
-
+/// The comparison that a token is.
 fn comparison_of(token: &Token) -> Option<CmpOp>
     ensures { result ≡ comparison_of token.now }
 {
@@ -75,6 +120,7 @@ fn comparison_of(token: &Token) -> Option<CmpOp>
     }
 }
 
+/// A truth value that stands first.
 fn truth_at(tokens: &[Token]) -> Option<Reading<'_, RngPred>>
     ensures exact { MatchOption result (NoReading prd IsTruth tokens.now) (λ r. IsTruth tokens.now r.tree r.rest.now) }
     ensures shorter { IfSome result (λ r. length r.rest.now < length tokens.now) }
@@ -96,21 +142,21 @@ fn truth_at(tokens: &[Token]) -> Option<Reading<'_, RngPred>>
     }
 }
 
-// A token that goes on with a range term follows.
+/// A token that goes on with a range term follows.
 fn begins_with_word_operator(tokens: &[Token]) -> bool
     ensures { MatchBool result (next_height prd tokens.now ≡ 0) (0 < next_height prd tokens.now) }
 {
     match first_of(tokens) {
-        Some((first, _)) => height_of(first) == 0,
+        Some((first, _)) => RngPred::height_of(first) == 0,
         None => false,
     }
 }
 
-// Two range terms and the comparison between them.
+/// Two range terms and the comparison between them.
 fn comparison(alloc: Global, tokens: &[Token]) -> Result<Option<Reading<'_, RngPred>>, AllocError>
-    ensures exact { IfOk result (λ answer. MatchOption answer (NoEnd prd 0 IsComparison tokens.now)
-        (λ r. Ends prd 0 IsComparison tokens.now r.tree r.rest.now)) }
-    ensures shorter { IfOk result (λ answer. IfSome answer (λ r. length r.rest.now < length tokens.now)) }
+    ensures exact { Found result (NoEnd prd 0 IsComparison tokens.now)
+        (λ r. Ends prd 0 IsComparison tokens.now r.tree r.rest.now) }
+    ensures shorter { OnFound result (λ r. length r.rest.now < length tokens.now) }
 {
     let Some(left) = range_term(alloc, tokens)? else {
         return Ok(None);
@@ -130,106 +176,12 @@ fn comparison(alloc: Global, tokens: &[Token]) -> Result<Option<Reading<'_, RngP
     }))
 }
 
-// A tree in which operators up to this height stand outside brackets.
-#[cycle(range_predicates)]
-fn chain(
-    alloc: Global,
-    level: usize,
-    tokens: &[Token],
-) -> Result<Option<Reading<'_, RngPred>>, AllocError>
-    requires { level ≤ 2 }
-    ensures exact { IfOk result (λ answer. MatchOption answer (NoneRead prd level tokens.now)
-        (λ r. IsRead prd level tokens.now r.tree r.rest.now)) }
-    ensures shorter { IfOk result (λ answer. IfSome answer (λ r. length r.rest.now < length tokens.now)) }
-{
-    if level == 0 {
-        return factor(alloc, tokens);
-    }
-    let Some(first) = chain(alloc, level - 1, tokens)? else {
-        return Ok(None);
-    };
-    let mut left = first.tree;
-    let mut rest = first.rest;
-    while let Some((op, behind)) = operator_at(level, rest) {
-        let Some(right) = chain(alloc, level - 1, behind)? else {
-            return Ok(None);
-        };
-        left = joined(alloc, op, left, right.tree)?;
-        rest = right.rest;
-    }
-    Ok(Some(Reading { tree: left, rest }))
-}
-
-// A primary, or its negation.
-#[cycle(range_predicates)]
-fn factor(alloc: Global, tokens: &[Token]) -> Result<Option<Reading<'_, RngPred>>, AllocError>
-    ensures exact { IfOk result (λ answer. MatchOption answer (NoneRead prd 0 tokens.now)
-        (λ r. IsRead prd 0 tokens.now r.tree r.rest.now)) }
-    ensures shorter { IfOk result (λ answer. IfSome answer (λ r. length r.rest.now < length tokens.now)) }
-{
-    let Some(behind) = behind_sign(Symbol::Bang, tokens) else {
-        return primary(alloc, tokens);
-    };
-    let Some(base) = primary(alloc, behind)? else {
-        return Ok(None);
-    };
-    Ok(Some(Reading {
-        tree: RngPred::Not(Boxed::new(alloc, base.tree)?),
-        rest: base.rest,
-    }))
-}
-
-// A comparison, or a predicate that no range term begins.
-#[cycle(range_predicates)]
-fn primary(alloc: Global, tokens: &[Token]) -> Result<Option<Reading<'_, RngPred>>, AllocError>
-    ensures exact { IfOk result (λ answer. MatchOption answer (NoEnd prd 0 (Prim prd) tokens.now)
-        (λ r. Ends prd 0 (Prim prd) tokens.now r.tree r.rest.now)) }
-    ensures shorter { IfOk result (λ answer. IfSome answer (λ r. length r.rest.now < length tokens.now)) }
-{
-    if let Some(found) = truth_at(tokens) {
-        if begins_with_word_operator(found.rest) {
-            return Ok(None);
-        }
-        return Ok(Some(found));
-    }
-    if let Some(inner) = behind_sign(Symbol::OpenSquare, tokens) {
-        let Some(found) = closed(alloc, inner)? else {
-            return Ok(None);
-        };
-        if begins_with_word_operator(found.rest) {
-            return Ok(None);
-        }
-        return Ok(Some(found));
-    }
-    comparison(alloc, tokens)
-}
-
-// A predicate and its closing bracket.
-#[cycle(range_predicates)]
-fn closed(alloc: Global, tokens: &[Token]) -> Result<Option<Reading<'_, RngPred>>, AllocError>
-    ensures exact { IfOk result (λ answer. MatchOption answer (NoReading prd (Closed prd 2 CloseSquare) tokens.now)
-        (λ r. Closed prd 2 CloseSquare tokens.now r.tree r.rest.now)) }
-    ensures shorter { IfOk result (λ answer. IfSome answer (λ r. length r.rest.now < length tokens.now)) }
-{
-    let Some(inner) = chain(alloc, 2, tokens)? else {
-        return Ok(None);
-    };
-    let Some(rest) = behind_sign(Symbol::CloseSquare, inner.rest) else {
-        return Ok(None);
-    };
-    Ok(Some(Reading {
-        tree: inner.tree,
-        rest,
-    }))
-}
-
 /// A range predicate that no operator goes on with.
 pub(crate) fn range_pred(
     alloc: Global,
     tokens: &[Token],
 ) -> Result<Option<Reading<'_, RngPred>>, AllocError>
-    ensures exact { IfOk result (λ answer. MatchOption answer (NoneRead prd 2 tokens.now)
-        (λ r. IsRead prd 2 tokens.now r.tree r.rest.now)) }
+    ensures exact { Found result (NoneRead prd 2 tokens.now) (λ r. IsRead prd 2 tokens.now r.tree r.rest.now) }
 {
     chain(alloc, 2, tokens)
 }

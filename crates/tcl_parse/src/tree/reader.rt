@@ -25,6 +25,7 @@ pub(crate) fn first_of(tokens: &[Token]) -> Option<(&Token, &[Token])>
     }
 }
 
+/// The token is this symbol.
 fn is_sign(token: &Token, symbol: Symbol) -> bool
     ensures { MatchBool result (token.now ≡ Sign symbol) (token.now ≡ Sign symbol → ⊥) }
 {

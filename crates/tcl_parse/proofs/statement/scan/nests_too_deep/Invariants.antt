@@ -1,7 +1,7 @@
 -- What is left decides, where few enough brackets are open.
 use Rattle.std.proofs.Common.{◌≡◌, ◌≤◌, drop}
 use Rattle.tcl_text.specs.Scan.{nests_too_deep}
-use Rattle.tcl_parse.proofs.text.scan.nests_too_deep.Given as goal
+use Rattle.tcl_parse.proofs.statement.scan.nests_too_deep.Given as goal
 
 abbrev pub invariant-loop-token : goal.invariant-loop-token
 invariant-loop-token l = record {

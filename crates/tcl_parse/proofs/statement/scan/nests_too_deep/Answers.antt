@@ -1,5 +1,5 @@
-use Rattle.tcl_parse.proofs.TextScan.{deep_here, deep_on, deep_end}
-use Rattle.tcl_parse.proofs.text.scan.nests_too_deep.Goals as goal
+use Rattle.tcl_parse.proofs.StatementScan.{deep_here, deep_on, deep_end}
+use Rattle.tcl_parse.proofs.statement.scan.nests_too_deep.Goals as goal
 
 pub returns-then-open-gt-OPEN_BRACKETS : goal.returns-then-open-gt-OPEN_BRACKETS
 returns-then-open-gt-OPEN_BRACKETS c =

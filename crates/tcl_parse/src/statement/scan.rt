@@ -9,13 +9,16 @@ ghost use Rattle.tcl_text.specs.declared.token.Statement.TheVariants as statemen
 use tcl_lang::{Line, Modulus, Part, Pred, Term};
 use tcl_text::{Statement, Symbol, Token};
 
+/// The most brackets that may be open at once.
 const OPEN_BRACKETS: u64 = 64;
 
+/// The most operators of a line.
 const OPERATORS: usize = 4096;
 
+/// The greatest exponent.
 const EXPONENT: u32 = 1024;
 
-// More than 64 brackets are open at once.
+/// More than 64 brackets are open at once.
 pub(crate) fn nests_too_deep(tokens: &[Token]) -> bool
     ensures { result ≡ scan.nests_too_deep 0 tokens.now }
 {
@@ -29,6 +32,7 @@ pub(crate) fn nests_too_deep(tokens: &[Token]) -> bool
     false
 }
 
+/// How many brackets are open behind a token.
 fn depth_after(depth: u64, token: &Token) -> u64
     requires { depth ≤ 64 }
     ensures depth { result ≡ scan.depth_after depth token.now }
@@ -41,12 +45,14 @@ fn depth_after(depth: u64, token: &Token) -> u64
     }
 }
 
+/// More than 4,096 operators stand in the line.
 pub(crate) fn has_too_many_operators(tokens: &[Token]) -> bool
     ensures { result ≡ scan.has_too_many_operators tokens.now }
 {
     OPERATORS < tokens.iter().filter(|token| is_operator(token)).count()
 }
 
+/// The token is an operator.
 fn is_operator(token: &Token) -> bool
     ensures { result ≡ scan.is_operator token.now }
 {
@@ -56,6 +62,7 @@ fn is_operator(token: &Token) -> bool
     }
 }
 
+/// The token is an operator.
 fn is_operator_symbol(symbol: Symbol) -> bool
     ensures { result ≡ scan.is_operator_symbol symbol }
 {
@@ -68,52 +75,59 @@ fn is_operator_symbol(symbol: Symbol) -> bool
     }
 }
 
-// No exponent is above 1,024.
-pub(crate) fn is_low_statement(statement: &Statement) -> bool
+/// No exponent is above 1,024.
+pub(crate) fn keeps_exponents(statement: &Statement) -> bool
     ensures { result ≡ scan.is_low_statement statement.now }
 {
     match statement {
-        Statement::Program(line) => is_low_line(line),
+        Statement::Program(line) => line_keeps_exponents(line),
         Statement::End => true,
     }
 }
 
-fn is_low_line(line: &Line) -> bool
+/// No exponent of the line is above 1,024.
+fn line_keeps_exponents(line: &Line) -> bool
     ensures { result ≡ scan.is_low_statement (statement.Program line.now) }
 {
     match line.predicate() {
-        Some(pred) => is_low_predicate(pred),
+        Some(pred) => predicate_keeps_exponents(pred),
         None => true,
     }
 }
 
-fn is_low_predicate(pred: &Pred) -> bool
+/// No exponent of the predicate is above 1,024.
+fn predicate_keeps_exponents(pred: &Pred) -> bool
     ensures { result ≡ scan.is_low_predicate pred.now }
 {
     match pred {
         Pred::Rng(_) => true,
         Pred::Alg(pred) => {
-            is_low(&pred.left) && is_low(&pred.right) && is_low_modulus(&pred.modulus)
+            term_keeps_exponents(&pred.left)
+                && term_keeps_exponents(&pred.right)
+                && modulus_keeps_exponents(&pred.modulus)
         }
     }
 }
 
-fn is_low_modulus(modulus: &Option<Modulus>) -> bool
+/// No exponent of the modulus is above 1,024.
+fn modulus_keeps_exponents(modulus: &Option<Modulus>) -> bool
     ensures { result ≡ scan.is_low_modulus modulus.now }
 {
     match modulus {
-        Some(parts) => are_low(parts.as_slice()),
+        Some(parts) => parts_keep_exponents(parts.as_slice()),
         None => true,
     }
 }
 
-fn are_low(parts: &[Part]) -> bool
+/// No exponent of the parts is above 1,024.
+fn parts_keep_exponents(parts: &[Part]) -> bool
     ensures { result ≡ list_all (λ part. is_exponent part.power) parts.now }
 {
-    parts.iter().all(|part| is_low_part(part))
+    parts.iter().all(|part| part_keeps_exponent(part))
 }
 
-fn is_low_part(part: &Part) -> bool
+/// The exponent of the part is not above 1,024.
+fn part_keeps_exponent(part: &Part) -> bool
     ensures { result ≡ is_exponent part.now.power }
 {
     match part.power {
@@ -122,15 +136,16 @@ fn is_low_part(part: &Part) -> bool
     }
 }
 
-fn is_low(term: &Term) -> bool
+/// No exponent of the term is above 1,024.
+fn term_keeps_exponents(term: &Term) -> bool
     ensures { result ≡ scan.is_low term.now }
 {
     match term {
         Term::Var(_) | Term::Num(_) => true,
-        Term::Neg(inner) => is_low(inner.get()),
+        Term::Neg(inner) => term_keeps_exponents(inner.get()),
         Term::Add(left, right) | Term::Sub(left, right) | Term::Mul(left, right) => {
-            is_low(left.get()) && is_low(right.get())
+            term_keeps_exponents(left.get()) && term_keeps_exponents(right.get())
         }
-        Term::Pow(base, exponent) => is_low(base.get()) && *exponent <= EXPONENT,
+        Term::Pow(base, exponent) => term_keeps_exponents(base.get()) && *exponent <= EXPONENT,
     }
 }

@@ -1,0 +1,5 @@
+use Rattle.tcl_parse.proofs.TreePredicates as predicates
+use Rattle.tcl_parse.proofs.tree.range_predicates.RngPredChained.opening.Goals as goal
+
+pub returns-clause-exact : goal.returns-clause-exact
+returns-clause-exact c = predicates.bracket_first c.in_ok-inside.ensures
