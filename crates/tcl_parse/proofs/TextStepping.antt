@@ -1,9 +1,8 @@
 -- What one line does to what was read, said of its tokens.
-use Rattle.std.proofs.Common.{◌≡◌, ◌≤◌, ℕ, Bool, true, false, List, [], ◌∷◌, Result, Ok, Err, refl, sym, ap, subst, ◌∙◌, arith}
+use Rattle.std.proofs.Common.{◌≡◌, ◌≤◌, ℕ, true, false, List, [], ◌∷◌, Result, Ok, Err, refl, sym, ap, subst, ◌∙◌, arith}
 use Rattle.std.proofs.lemmas.Bool.{ltb-false}
-use Rattle.std.specs.Prelude.{Some, None, nat_lt, IfOk, MatchResult}
+use Rattle.std.specs.Prelude.{Some, nat_lt, IfOk, MatchResult}
 use Rattle.tcl_lang.specs.Program.{ReadProgram}
-use Rattle.tcl_lang.specs.declared.pred.Line.{Line}
 use Rattle.tcl_text.specs.declared.fault.LineFault.{LineFault}
 use Rattle.tcl_text.specs.declared.fault.TextFault.{TextFault}
 use Rattle.tcl_text.specs.declared.fault.TextFault.TheVariants as text_fault

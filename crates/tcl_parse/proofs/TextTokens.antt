@@ -1,5 +1,5 @@
 -- The tokens of a line, as they are found one behind the other.
-use Rattle.std.proofs.Common.{◌≡◌, ℕ, zero, suc, Bool, true, false, List, [], ◌∷◌, ◌++◌, drop, Option, refl, sym, ap, ◌∙◌, append_assoc, append-nil, eq-eqb, ne_eqb}
+use Rattle.std.proofs.Common.{◌≡◌, ℕ, zero, suc, true, false, List, [], ◌∷◌, ◌++◌, drop, Option, refl, sym, ap, ◌∙◌, append_assoc, append-nil, eq-eqb, ne_eqb}
 use Rattle.std.specs.Prelude.{Some, None, ◌==◌, ◌≢◌, if◌then◌else◌}
 use Rattle.tcl_text.specs.declared.token.Raw.{Raw}
 use Rattle.tcl_text.specs.declared.token.Cut.{Cut}

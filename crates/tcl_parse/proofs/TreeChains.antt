@@ -1,5 +1,5 @@
 -- Chains of operators, which a loop reads from left to right: the readings from the start are those that go on from here.
-use Rattle.std.proofs.Common.{◌≡◌, ℕ, suc, ◌<◌, ◌≤◌, ◌-◌, List, [], ◌∷◌, length, refl, sym, ap, subst, arith}
+use Rattle.std.proofs.Common.{◌≡◌, ℕ, suc, ◌<◌, ◌≤◌, ◌-◌, List, [], ◌∷◌, refl, sym, subst, arith}
 use Rattle.std.specs.Prelude.{Some}
 use Rattle.tcl_lang.specs.declared.range.RngOp.TheVariants as range_op
 use Rattle.tcl_text.specs.declared.operator.TermOp.TheVariants as term_op

@@ -1,12 +1,12 @@
 -- Factors: a base with or without a sign, and bases that begin with a bracket.
-use Rattle.std.proofs.Common.{◌≡◌, ◌<◌, List, ◌∷◌, refl, arith, subst, sym}
-use Rattle.std.specs.Prelude.{Option, None, Some}
+use Rattle.std.proofs.Common.{◌≡◌, ◌<◌, List, ◌∷◌, subst, sym}
+use Rattle.std.specs.Prelude.{Option}
 use Rattle.tcl_lang.specs.declared.ty.Ty.{Ty}
 use Rattle.tcl_lang.specs.declared.term.Term.{Term}
 use Rattle.tcl_lang.specs.declared.range.RngTerm.{RngTerm}
 use Rattle.tcl_lang.specs.declared.range.RngPred.{RngPred}
 use Rattle.tcl_text.specs.declared.symbol.Symbol.{Symbol}
-use Rattle.tcl_text.specs.declared.symbol.Symbol.TheVariants.{Minus, Tilde, Bang, Star, Plus, Ampersand, Bar, Caret, Open, OpenSquare}
+use Rattle.tcl_text.specs.declared.symbol.Symbol.TheVariants.{Minus, Tilde, Bang, Open, OpenSquare}
 use Rattle.tcl_text.specs.declared.token.Token.{Token}
 use Rattle.tcl_text.specs.declared.token.Token.TheVariants.{Sign}
 use Rattle.tcl_text.specs.Trees.{Sort, alg, wrd, prd, Tree, next_height}

@@ -5,7 +5,7 @@ use Rattle.tcl_lang.specs.declared.ty.Ty.{Ty}
 use Rattle.tcl_lang.specs.declared.range.CmpOp.{CmpOp}
 use Rattle.tcl_lang.specs.declared.range.RngTerm.{RngTerm}
 use Rattle.tcl_lang.specs.declared.range.RngPred.{RngPred, True as Truth, False as Falsity, Cmp}
-use Rattle.tcl_text.specs.declared.symbol.Symbol.TheVariants.{Star, Plus, Minus, Ampersand, Bar, Caret, Bang, OpenSquare, CloseSquare}
+use Rattle.tcl_text.specs.declared.symbol.Symbol.TheVariants.{Star, Plus, Minus, Ampersand, Bar, Caret, Bang, OpenSquare}
 use Rattle.tcl_text.specs.declared.token.Token.{Token}
 use Rattle.tcl_text.specs.declared.token.Token.TheVariants.{Reserved, Sign}
 use Rattle.tcl_text.specs.declared.token.Keyword.{Keyword}

@@ -4,7 +4,7 @@ use Rattle.std.specs.Prelude.{ℤ, Option, None}
 use Rattle.tcl_lang.specs.declared.ty.Ty.{Ty}
 use Rattle.tcl_lang.specs.declared.term.Term.{Term, Var, Num}
 use Rattle.tcl_lang.specs.declared.term.Term.TheViews as term
-use Rattle.tcl_text.specs.declared.symbol.Symbol.TheVariants.{StarStar, Minus, Open, Close}
+use Rattle.tcl_text.specs.declared.symbol.Symbol.TheVariants.{StarStar, Minus, Open}
 use Rattle.tcl_text.specs.declared.token.Token.{Token}
 use Rattle.tcl_text.specs.declared.token.Token.TheVariants.{Name, Number, Sign}
 use Rattle.tcl_text.specs.Trees.{alg, next_height}

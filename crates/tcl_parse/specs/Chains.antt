@@ -2,11 +2,8 @@
 use Rattle.std.specs.Prelude.{ℕ, Option, Some, None, List, ◌∷◌}
 use Rattle.tcl_lang.specs.declared.ty.Ty.{Ty}
 use Rattle.tcl_lang.specs.declared.instr.Op.TheVariants.{Cast}
-use Rattle.tcl_lang.specs.declared.term.Term.{Term}
 use Rattle.tcl_lang.specs.declared.term.Term.TheViews as term
-use Rattle.tcl_lang.specs.declared.range.RngTerm.{RngTerm}
 use Rattle.tcl_lang.specs.declared.range.RngTerm.TheViews as range_term
-use Rattle.tcl_lang.specs.declared.range.RngPred.{RngPred}
 use Rattle.tcl_lang.specs.declared.range.RngPred.TheViews as range_pred
 use Rattle.tcl_text.specs.declared.symbol.Symbol.{Symbol}
 use Rattle.tcl_text.specs.declared.symbol.Symbol.TheVariants.{Minus, Tilde, Bang, Open, Close, OpenSquare, CloseSquare, Comma}

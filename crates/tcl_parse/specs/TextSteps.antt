@@ -1,6 +1,5 @@
 -- What one line of a text does to what was read before it.
 use Rattle.std.specs.Prelude.{◌≡◌, ℕ, true, false, List, [], ◌∷◌, Some, None, Ok, Err}
-use Rattle.tcl_lang.specs.declared.pred.Line.{Line}
 use Rattle.tcl_text.specs.declared.fault.LineFault.{LineFault}
 use Rattle.tcl_text.specs.declared.fault.LineFault.TheVariants as line_fault
 use Rattle.tcl_text.specs.declared.fault.TextFault.{TextFault}

@@ -1,4 +1,4 @@
-use Rattle.std.proofs.Common.{◌≡◌, ◌≤◌, refl, sym, ap, subst, arith}
+use Rattle.std.proofs.Common.{◌≡◌, refl, sym, ap, subst, arith}
 use Rattle.tcl_text.proofs.ReadShapes.{Kept, kept_start, has_shape}
 use Rattle.tcl_parse.specs.TextProgress.{progress_of}
 use Rattle.tcl_parse.proofs.TextStepping.{begins, goes_on, goes_nowhere, goes_to_end, goes_on_for_ever, keeps, at_end}

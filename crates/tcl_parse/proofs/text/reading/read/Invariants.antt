@@ -1,5 +1,5 @@
 -- What the rest reads as is what the text reads as, and what was read keeps the shape of a program.
-use Rattle.std.proofs.Common.{◌≡◌, ◌≤◌, ◌-◌, ◌^◌, length}
+use Rattle.std.proofs.Common.{◌≤◌, ◌-◌, ◌^◌, length}
 use Rattle.tcl_text.proofs.ReadShapes.{Kept}
 use Rattle.tcl_parse.specs.TextProgress.{progress_of}
 use Rattle.tcl_parse.proofs.TextStepping.{Goes}

@@ -1,4 +1,4 @@
-use Rattle.std.proofs.Common.{◌≡◌, map, sym, ap, ◌∙◌}
+use Rattle.std.proofs.Common.{map, ap, ◌∙◌}
 use Rattle.tcl_text.specs.Numbering.{number_of, with_name}
 use Rattle.tcl_parse.proofs.TextNames.{number_in, with_key}
 use Rattle.tcl_parse.proofs.text.numbering.NameTable.enter.Goals as goal

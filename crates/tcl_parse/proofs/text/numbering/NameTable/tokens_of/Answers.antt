@@ -1,4 +1,4 @@
-use Rattle.std.proofs.Common.{◌≡◌, ◌+◌, ◌++◌, ◌∷◌, [], drop, ap, ◌∙◌}
+use Rattle.std.proofs.Common.{◌+◌, ◌++◌, drop, ap, ◌∙◌}
 use Rattle.tcl_text.specs.Numbering.{tokens_of}
 use Rattle.tcl_parse.proofs.TextTokenNames.{tokens_on, names_on, tokens_end, names_end}
 use Rattle.tcl_parse.proofs.text.numbering.NameTable.tokens_of.Goals as goal

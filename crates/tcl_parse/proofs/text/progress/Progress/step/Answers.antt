@@ -1,4 +1,4 @@
-use Rattle.std.proofs.Common.{◌≡◌, [], refl, true≢false, sym, ap, ◌∙◌}
+use Rattle.std.proofs.Common.{◌≡◌, refl, true≢false, sym, ap, ◌∙◌}
 use Rattle.tcl_text.specs.Numbering.{tokens_of, names_after}
 use Rattle.tcl_parse.specs.TextProgress.{progress_of}
 use Rattle.tcl_parse.specs.TextSteps.{not_allowed}
