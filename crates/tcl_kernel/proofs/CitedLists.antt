@@ -1,5 +1,5 @@
 -- A fact that stands under a list of lemmas stands under those of them that it cites.
-use Rattle.std.proofs.Common.{◌≡◌, ℕ, ◌<◌, nat_eq, eqb-true, eq-eqb, refl, sym, ◌∙◌, ap, subst, arith, Bool, true, false, ◌&&◌, if◌then◌else◌, ℤ, All, List, [], ◌∷◌, ◌++◌, length, Option, Some, None}
+use Rattle.std.proofs.Common.{◌≡◌, ℕ, ◌<◌, ◌≤◌, ◌+◌, nat_eq, eqb-true, eq-eqb, refl, sym, ◌∙◌, ap, subst, arith, Bool, true, false, ◌&&◌, if◌then◌else◌, ℤ, All, List, [], ◌∷◌, ◌++◌, length, Option, Some, None}
 use Rattle.std.specs.Option.{is_some}
 use Rattle.std.specs.List.{list_all}
 use Rattle.std.proofs.lemmas.Bool.{and_parts, and_from}
@@ -24,6 +24,8 @@ use Rattle.tcl_goals.specs.Keys.{key_less, found_key, hyp_key, is_key_above, hyp
 use Rattle.tcl_goals.specs.Order.{InOrder, has_hyp, is_before}
 use Rattle.tcl_goals.specs.Holds.{lemma_holds, hyp_holds, FactHolds}
 use Rattle.tcl_board.specs.Shows.{is_lemma, AreCited}
+use Rattle.tcl_kernel.specs.Earlier.{Earlier}
+use Rattle.tcl_kernel.specs.Evidence.{next_fact, claimed_lemma, numbered, with_shown}
 use Rattle.tcl_kernel.specs.Cited.{cites, cited_lemmas}
 use Rattle.tcl_goals.specs.declared.piece.Shown.{Shown}
 use Rattle.tcl_goals.specs.declared.piece.Shown.TheVariants as shown
@@ -254,3 +256,26 @@ break_shown p q cited goal input same none c = (
   subst (λ r. IsCounterexample (length r.variables) r.lines input goal) (sym same) c,
   λ n m e. absurd (none_found n m (ap (λ (list : List Numbered). lemma_of list n) (sym none) ∙ e)),
 )
+
+pub cited_among : (hyps : List Hyp) (lemmas : List Numbered) → Extends (cited_lemmas hyps lemmas) lemmas
+cited_among hyps lemmas n m e = sym (cited_found hyps lemmas n (are_cited hyps lemmas n m e)) ∙ e
+
+-- what is added is below the next number
+lemma_added : (lemmas : List Numbered) (n : ℕ) (o : Option Lemma) → next_number lemmas ≤ n → next_number (lemmas ++ numbered n o) ≤ n + 1
+unfolding next_number
+lemma_added [] n None h = omega arith
+lemma_added [] n (Some m) h = omega arith
+lemma_added (a ∷ lemmas) n o h =
+    let rest = lemma_added lemmas n o (omega (arith, h)) in
+    omega (arith, h, rest)
+
+fact_added : (facts : List NumberedFact) (n : ℕ) (f : Fact) → next_fact facts ≤ n → next_fact (facts ++ record { number = n; fact = f } ∷ []) ≤ n + 1
+unfolding next_fact
+fact_added [] n f h = omega arith
+fact_added (a ∷ facts) n f h =
+    let rest = fact_added facts n f (omega (arith, h)) in
+    omega (arith, h, rest)
+
+pub added_below : (earlier : Earlier) (n : ℕ) (sh : Shown) → next_number earlier.lemmas ≤ n → next_fact earlier.facts ≤ n → (next_number (with_shown earlier n sh).lemmas ≤ n + 1) × (next_fact (with_shown earlier n sh).facts ≤ n + 1)
+added_below earlier n (shown.Fact fact) l f = (lemma_added earlier.lemmas n (claimed_lemma fact.claim fact.cube) l, fact_added earlier.facts n fact f)
+added_below earlier n (shown.Breaks goal input) l f = (omega (arith, l), omega (arith, f))

@@ -1,15 +1,19 @@
 -- What checks give: certificates are sound, and so are checked inputs.
-use Rattle.std.specs.Prelude.{◌≡◌, ◌↔◌, ℕ, ℤ, All, List, length, None}
+use Rattle.std.specs.Prelude.{◌≡◌, ◌↔◌, ◌≤◌, ◌+◌, ℕ, ℤ, All, List, length, None}
 use Rattle.tcl_lang.specs.Program.{VersionedProgram}
 use Rattle.tcl_lang.specs.Form.{IsWellFormed}
 use Rattle.tcl_lang.specs.Correct.{IsCounterexample}
 use Rattle.tcl_goals.specs.declared.fact.Fact.{Fact}
+use Rattle.tcl_goals.specs.declared.fact.Hyp.{Hyp}
 use Rattle.tcl_goals.specs.declared.lemma.Numbered.{Numbered}
+use Rattle.tcl_goals.specs.declared.piece.Shown.{Shown}
+use Rattle.tcl_goals.specs.LemmaList.{next_number, Extends}
 use Rattle.tcl_goals.specs.Order.{InOrder}
 use Rattle.tcl_goals.specs.Holds.{FactHolds}
 use Rattle.tcl_kernel.specs.declared.certificate.Cert.{Cert}
 use Rattle.tcl_kernel.specs.Shown.{Stands}
 use Rattle.tcl_kernel.specs.Earlier.{Earlier}
+use Rattle.tcl_kernel.specs.Evidence.{next_fact, with_shown}
 use Rattle.tcl_kernel.specs.Cited.{cited_lemmas}
 use Rattle.tcl_kernel.specs.Entry.{entry_reason}
 use Rattle.tcl_kernel.specs.BoundsCertificate.{BoundsCheck}
@@ -73,6 +77,15 @@ abbrev pub CitedAreEnough : Type 0
 CitedAreEnough =
     (p : VersionedProgram) (lemmas : List Numbered) (fact : Fact) → Stands p lemmas fact →
     Stands p (cited_lemmas fact.hyps lemmas) fact
+
+-- a proof keeps only lemmas of the list, and what a fact adds is below the next number
+abbrev pub CitedAreAmong : Type 0
+CitedAreAmong = (hyps : List Hyp) (lemmas : List Numbered) → Extends (cited_lemmas hyps lemmas) lemmas
+
+abbrev pub AddedAreBelow : Type 0
+AddedAreBelow =
+    (earlier : Earlier) (n : ℕ) (sh : Shown) → next_number earlier.lemmas ≤ n → next_fact earlier.facts ≤ n →
+    (next_number (with_shown earlier n sh).lemmas ≤ n + 1) × (next_fact (with_shown earlier n sh).facts ≤ n + 1)
 
 -- an input that checks refutes the goal
 abbrev pub BreaksRefute : Type 0

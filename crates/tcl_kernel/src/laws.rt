@@ -23,6 +23,13 @@ pub fn certificates_are_sound()
     ensures cited { laws.CitedAreEnough }
 {}
 
+/// Facts are added one after the other: a proof keeps only lemmas of the list under which it was checked, and after a fact was
+/// added under a number the next number may follow.
+pub fn facts_are_added()
+    ensures cited { laws.CitedAreAmong }
+    ensures below { laws.AddedAreBelow }
+{}
+
 /// An input that checks refutes the goal.
 pub fn checked_breaks_refute()
     ensures { laws.BreaksRefute }

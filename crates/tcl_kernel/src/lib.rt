@@ -25,8 +25,8 @@ pub use checker::check;
 pub use counterexample::check_break;
 pub use facts::{Facts, NumberedFact};
 pub use laws::{
-    certificates_are_sound, checked_breaks_refute, cut_models_are_true, models_stray,
-    reasons_are_exact, search_ends_are_true, strays_break,
+    certificates_are_sound, checked_breaks_refute, cut_models_are_true, facts_are_added,
+    models_stray, reasons_are_exact, search_ends_are_true, strays_break,
 };
 pub use proof::Proof;
 pub use reason::Reason;
