@@ -1,15 +1,16 @@
 -- The canonical text of a program that some text reads as reads as the same program.
 use Rattle.std.proofs.Common.{◌≡◌, ◌≤◌, ◌<◌, ◌+◌, ℕ, zero, suc, List, [], ◌∷◌, ◌++◌, length, take, map, Bool, true, false, refl, ap, sym, subst, ◌∙◌, arith, append_assoc, append-nil}
-use Rattle.std.specs.Prelude.{Option, Some, None, is_none, Ok, nat_lt, ◌&&◌, codes, ℤ, min, if◌then◌else◌, int_lt, pos, unsigned_abs}
+use Rattle.std.specs.Prelude.{Option, Some, None, is_none, Ok, nat_lt, ◌&&◌, codes}
 use Rattle.std.specs.List.{list_all}
-use Rattle.std.proofs.lemmas.Bool.{eqb-true}
+use Rattle.std.proofs.lemmas.Bool.{eqb-true, and_parts}
+use Rattle.std.proofs.lemmas.Bool.Decides.{nat_tests}
 use Rattle.std.proofs.lemmas.List.{length-append}
+use Rattle.std.proofs.lemmas.List.Concat.{flat_map-cons}
 use Rattle.std.proofs.Math.Seq.{take-append_seam}
-use Rattle.tcl_lang.specs.declared.instr.Op.{Op}
 use Rattle.tcl_lang.specs.declared.pred.Line.{Line}
 use Rattle.tcl_lang.specs.declared.pred.Line.TheVariants.{Input, Pre, Step, Assert, Assume, Cut, Post}
 use Rattle.tcl_lang.specs.Names.{occurrences}
-use Rattle.tcl_lang.specs.Shape.{stage_of, is_line, is_numbered, AreDistinct}
+use Rattle.tcl_lang.specs.Shape.{stage_of, is_numbered, AreDistinct}
 use Rattle.tcl_lang.specs.Program.{NamedProgram, ReadProgram}
 use Rattle.tcl_text.specs.declared.token.Raw.{Raw}
 use Rattle.tcl_text.specs.declared.token.Raw.TheVariants as raw
@@ -19,48 +20,38 @@ use Rattle.tcl_text.specs.declared.token.Keyword.TheVariants as keyword
 use Rattle.tcl_text.specs.declared.token.Statement.TheVariants.{Program, End}
 use Rattle.tcl_text.specs.Tokens.{raws_of}
 use Rattle.tcl_text.specs.Words.{meaning_of}
-use Rattle.tcl_text.specs.Numbering.{tokens_of, names_after}
-use Rattle.tcl_text.specs.Scan.{nests_too_deep}
+use Rattle.tcl_text.specs.Lines.{lines_of}
+use Rattle.tcl_text.specs.Numbering.{word_token, word_names, tokens_of, names_after}
+use Rattle.tcl_text.specs.Scan.{is_operator, nests_too_deep}
 use Rattle.tcl_text.specs.Canonical.{name_text, line_text, canonical_text}
-use Rattle.tcl_text.specs.Grammar.{capped}
 use Rattle.tcl_text.specs.Statements as grammar
 use Rattle.tcl_text.specs.Verdict as verdict
 use Rattle.tcl_text.specs.Reading as reading
-use Rattle.tcl_text.specs.Reading.{Progress, start, skipped, continued, program_of, may_follow, Reads}
+use Rattle.tcl_text.specs.Reading.{Progress, start, continued, program_of, may_follow, Reads}
 use Rattle.tcl_text.proofs.TreeNames.{token_names}
 use Rattle.tcl_text.proofs.StatementNames.{statement_names}
-use Rattle.tcl_text.proofs.Shapes.{Fit}
-use Rattle.tcl_text.proofs.StatementShapes.{statement_shape}
 use Rattle.tcl_text.proofs.NumberedNames.{line_numbered}
 use Rattle.tcl_text.proofs.NameGrowth.{Grown, grown_same, grown_on, names_grown}
 use Rattle.tcl_text.proofs.NameWords.{is_word, is_proper}
 use Rattle.tcl_text.proofs.TokenShapes.{line_fit}
 use Rattle.tcl_text.proofs.ReadPrograms.{Good, good_of, read_program}
+use Rattle.tcl_report.specs.Parts.{ended_line, lines_text}
 use Rattle.tcl_report.specs.Readable.{ReadsAs, IsReadable}
-use Rattle.tcl_report.proofs.LineTokens.{line_tokens}
-use Rattle.tcl_report.proofs.LineBack.{AmountFits, line_back}
-use Rattle.tcl_report.proofs.Operators.{ops}
-use Rattle.tcl_report.proofs.LineOperators.{statement_ops}
-use Rattle.tcl_report.proofs.LineRooms.{line_shallow}
-use Rattle.tcl_report.proofs.RawTexts.{line_raws}
-use Rattle.tcl_report.proofs.CutTerms.{AreNames}
-use Rattle.tcl_report.proofs.CutLines.{line_cut, end_cut}
-use Rattle.tcl_report.proofs.Told.{next_after, numbered_parts, next_below, line_told, end_told}
-use Rattle.tcl_report.proofs.Ended.{AmountsFit, canonical_lines}
+use Rattle.tcl_report.specs.CanonicalTokens.{line_tokens}
+use Rattle.tcl_report.specs.Rendering.{tight, is_listed}
+use Rattle.tcl_report.proofs.Leaner.{Shallow, leaner_fit, leaner_count, leaner_shallow}
+use Rattle.tcl_report.proofs.ReadLines.{statement_found}
+use Rattle.tcl_report.proofs.LineTexts.{line_shows}
+use Rattle.tcl_report.proofs.CutRenderings.{AreNames, are_below, all_sound, raw_of, rendered_cuts, rendered_shown}
+use Rattle.tcl_report.proofs.Meanings.{keyword_meaning}
+use Rattle.tcl_report.proofs.Told.{in_order, next_after, numbered_parts, next_below, told}
+use Rattle.tcl_report.proofs.Ended.{AreShown, ended, no_lines}
 
 -- the names of a program that is read are names
-first_of : (a b : Bool) → (a && b) ≡ true → a ≡ true
-first_of true b e = refl
-first_of false b e = absurd cc
-
-second_of : (a b : Bool) → (a && b) ≡ true → b ≡ true
-second_of true b e = e
-second_of false b e = absurd cc
-
 proper_at : (names : List (List ℕ)) (x : ℕ) → list_all is_proper names ≡ true → x < length names → is_proper (name_text names x) ≡ true
 proper_at [] x e h = absurd (omega arith)
-proper_at (w ∷ names) zero e h = first_of (is_proper w) (list_all is_proper names) e
-proper_at (w ∷ names) (suc x) e h = proper_at names x (second_of (is_proper w) (list_all is_proper names) e) (omega arith)
+proper_at (w ∷ names) zero e h = (and_parts (is_proper w) (list_all is_proper names) e).0
+proper_at (w ∷ names) (suc x) e h = proper_at names x (and_parts (is_proper w) (list_all is_proper names) e).1 (omega arith)
 
 no_meaning : (o : Option Token) → is_none o ≡ true → o ≡ None
 no_meaning None e = refl
@@ -68,36 +59,11 @@ no_meaning (Some t) e = absurd cc
 
 are_names : (names : List (List ℕ)) → list_all is_proper names ≡ true → AreNames names
 are_names names e = record {
-  word = λ x h. first_of (is_word (name_text names x)) (is_none (meaning_of (name_text names x))) (proper_at names x e h);
-  free = λ x h. no_meaning (meaning_of (name_text names x)) (second_of (is_word (name_text names x)) (is_none (meaning_of (name_text names x))) (proper_at names x e h));
+  word = λ x h. (and_parts (is_word (name_text names x)) (is_none (meaning_of (name_text names x))) (proper_at names x e h)).0;
+  free = λ x h.
+      no_meaning (meaning_of (name_text names x))
+      (and_parts (is_word (name_text names x)) (is_none (meaning_of (name_text names x))) (proper_at names x e h)).1;
 }
-
--- an amount that is read is kept
-kept : (n : ℤ) → capped n ≤ 4294967295
-kept n = by_sign (int_lt n (pos 0)) (unsigned_abs n)
-  where
-    least : (m : ℕ) → min m 4294967295 ≤ 4294967295
-    least m = grind arith
-
-    by_sign : (b : Bool) (m : ℕ) → (if b then 0 else min m 4294967295) ≤ 4294967295
-    by_sign true m = omega arith
-    by_sign false m = least m
-
-amount_low : {b : Bool} {ts : List Token} {n : ℕ} → grammar.Amount b ts n → n ≤ 4294967295
-amount_low (grammar.some_amount {n = n}) = kept n
-amount_low grammar.no_amount = omega arith
-
-form_fits : {op : Op} {T : _} {ts : List Token} {i : _} → grammar.Form op T ts i → AmountFits (Step i)
-form_fits (grammar.form p q r) = amount_low r
-
-amount_fits : {ts : List Token} {l : Line} → grammar.IsStatement ts (Program l) → AmountFits l
-amount_fits grammar.input = tt
-amount_fits (grammar.pre p) = tt
-amount_fits (grammar.step f) = form_fits f
-amount_fits (grammar.assert p) = tt
-amount_fits (grammar.assume p) = tt
-amount_fits (grammar.cut p) = tt
-amount_fits (grammar.post p) = tt
 
 -- the names so far are the first ones of all
 reads_grown : {s : Progress} {lines : List (List ℕ)} {q : ReadProgram} → reading.ReadsOn s lines (Ok q) → Grown s.names q.program.names
@@ -111,29 +77,37 @@ reads_grown {s = s} {q = q} (reading.placed {raw = raw} {raws = raws} {l = Progr
 first_names : (names all : List (List ℕ)) → Grown names all → take (length names) all ≡ names
 first_names names all g = ap (take (length names)) g.is ∙ take-append_seam names g.more
 
--- a line of the program in its canonical text
-pub record Head (raws : List Raw) : Type 0 where
-  pub first : Raw
-  pub others : List Raw
-  pub is : raws ≡ first ∷ others
+-- the first token of a line
+record Head (ts : List Token) : Type 0 where
+  first : Token
+  others : List Token
+  is : ts ≡ first ∷ others
 
-line_head : (names : List (List ℕ)) (l : Line) → Head (line_raws names l)
-line_head names (Input T x) = record { first = _; others = _; is = refl }
-line_head names (Pre p) = record { first = _; others = _; is = refl }
-line_head names (Step i) = record { first = _; others = _; is = refl }
-line_head names (Assert p) = record { first = _; others = _; is = refl }
-line_head names (Assume p) = record { first = _; others = _; is = refl }
-line_head names (Cut p) = record { first = _; others = _; is = refl }
-line_head names (Post p) = record { first = _; others = _; is = refl }
+line_head : (l : Line) → Head (line_tokens l)
+line_head (Input T x) = record { first = _; others = _; is = refl }
+line_head (Pre p) = record { first = _; others = _; is = refl }
+line_head (Step i) = record { first = _; others = _; is = refl }
+line_head (Assert p) = record { first = _; others = _; is = refl }
+line_head (Assume p) = record { first = _; others = _; is = refl }
+line_head (Cut p) = record { first = _; others = _; is = refl }
+line_head (Post p) = record { first = _; others = _; is = refl }
 
--- what reading its canonical text gives
-pub record Canonical (names all after : List (List ℕ)) (l : Line) : Type 0 where
-  pub head : Head (line_raws all l)
-  pub cut : raws_of (line_text all l) ≡ Some (head.first ∷ head.others)
-  pub judged : verdict.Judged (tokens_of names (head.first ∷ head.others)) (Ok (Program l))
-  pub grows : names_after names (head.first ∷ head.others) ≡ after
-  pub shape : is_line l ≡ true
-  pub fits : AmountFits l
+-- no more operators, where no more than 4,096 are allowed
+few_less : (m n : ℕ) → m + 0 ≤ n → nat_lt 4096 n ≡ false → nat_lt 4096 m ≡ false
+few_less m n h e = grind (arith, nat_tests)
+
+empty : Shallow 0 []
+unfolding nests_too_deep
+empty = refl
+
+-- what reading the canonical text of a line gives
+record Canonical (names all after : List (List ℕ)) (l : Line) : Type 0 where
+  first : Raw
+  others : List Raw
+  cut : raws_of (line_text all l) ≡ Some (first ∷ others)
+  judged : verdict.Judged (tokens_of names (first ∷ others)) (Ok (Program l))
+  grows : names_after names (first ∷ others) ≡ after
+  shown : AreShown (line_text all l)
 
 canonical_line : (names all : List (List ℕ)) (line : List ℕ) (raws : List Raw) (l : Line) → AreDistinct all → AreNames all →
     raws_of line ≡ Some raws → Good (tokens_of names raws) (Program l) → Grown names all → Grown (names_after names raws) all →
@@ -142,47 +116,66 @@ canonical_line names all line raws l d h e good g k =
     let after = names_after names raws in
     let n = length names in
     let fit = line_fit line raws names e in
-    let shape = statement_shape good.is fit good.low in
-    let fits = amount_fits good.is in
+    let found = statement_found good.is fit in
     let numbered = subst (λ xs. is_numbered (length after) n xs ≡ true) (statement_names good.is) (line_numbered names raws) in
     let parts = numbered_parts (length after) n (occurrences l) [] (subst (λ xs. is_numbered (length after) n xs ≡ true) (sym (append-nil (occurrences l))) numbered) in
     let next : next_after n (occurrences l) ≡ length after = eqb-true (next_after n (occurrences l)) (length after) parts.1 in
     let long : length all ≡ length after + length k.more = ap length k.is ∙ length-append after k.more in
     let low : next_after n (occurrences l) ≤ length all = omega (arith, next, long) in
+    let same = statement_names found.1 in
+    let sound =
+    all_sound (length all) (line_tokens l) (leaner_fit found.0 fit).0 (ap (are_below (length all)) same ∙ next_below (length all) n (occurrences l) low) in
+    let told = told all d h (line_tokens l) n sound (ap (in_order n) same ∙ parts.0) (subst (λ xs. next_after n xs ≤ length all) (sym same) low) in
     let begin : take n all ≡ names = first_names names all g in
-    let told = line_told all d h l shape fits n parts.0 low in
-    let head = line_head all l in
-    let cut = line_cut all h l shape fits (next_below (length all) n (occurrences l) low) in
-    let tokens : tokens_of names (line_raws all l) ≡ line_tokens l = ap (λ ns. tokens_of ns (line_raws all l)) (sym begin) ∙ told.0 in
-    let canonical_fit = subst (λ ts. Fit ts) tokens (line_fit (line_text all l) (line_raws all l) names cut) in
-    let back = line_back l shape fits in
-    let same_ops : ops (line_tokens l) ≡ ops (tokens_of names raws) = statement_ops back canonical_fit ∙ sym (statement_ops good.is fit) in
+    let raws_here = map (raw_of all) (line_tokens l) in
+    let tokens : tokens_of names raws_here ≡ line_tokens l = ap (λ ns. tokens_of ns raws_here) (sym begin) ∙ told.0 in
+    let head = line_head l in
+    let head_is : raws_here ≡ raw_of all head.first ∷ map (raw_of all) head.others = ap (map (raw_of all)) head.is in
+    let shallow = subst (λ ts. Shallow 0 ts) (append-nil (line_tokens l)) ((leaner_shallow found.0 0 0 (omega arith) good.shallow).1 [] empty) in
+    let count = leaner_count is_operator (λ a b. refl) found.0 in
     record {
-      head = head;
-      cut = cut ∙ ap Some head.is;
+      first = raw_of all head.first;
+      others = map (raw_of all) head.others;
+      cut =
+          ap raws_of (sym (line_shows all l))
+          ∙ (rendered_cuts all h (is_listed (line_tokens l)) tight (line_tokens l) sound ∙ ap Some head_is);
       judged =
-          subst (λ rs. verdict.Judged (tokens_of names rs) (Ok (Program l))) head.is
+          subst (λ rs. verdict.Judged (tokens_of names rs) (Ok (Program l))) head_is
           (subst (λ ts. verdict.Judged ts (Ok (Program l))) (sym tokens)
-          (verdict.good (line_shallow good.is good.shallow) (ap (λ m. nat_lt 4096 m) same_ops ∙ good.few) back good.low));
+          (verdict.good shallow (few_less _ _ count good.few) found.1 good.low));
       grows =
-          ap (names_after names) (sym head.is)
-          ∙ (ap (λ ns. names_after ns (line_raws all l)) (sym begin)
-          ∙ (told.1 ∙ (ap (λ m. take m all) next ∙ first_names after all k)));
-      shape = shape;
-      fits = fits;
+          ap (names_after names) (sym head_is)
+          ∙ (ap (λ ns. names_after ns raws_here) (sym begin)
+          ∙ (told.1 ∙ (ap (λ m. take m all) (ap (next_after n) same ∙ next) ∙ first_names after all k)));
+      shown = subst AreShown (line_shows all l) (rendered_shown all h (is_listed (line_tokens l)) tight (line_tokens l) sound);
     }
+
+-- the end of the text
+abbrev pub end_text : List ℕ
+end_text = codes "end" ++ 10 ∷ []
+
+end_ends : lines_of end_text ≡ codes "end" ∷ []
+end_ends = ended (codes "end") [] refl ∙ ap (λ ls. codes "end" ∷ ls) no_lines
+
+end_told : (before : List (List ℕ)) →
+    (tokens_of before (raw.Word (codes "end") ∷ []) ≡ Reserved keyword.End ∷ []) × (names_after before (raw.Word (codes "end") ∷ []) ≡ before)
+unfolding tokens_of names_after
+end_told before = (
+  ap (λ m. word_token before (codes "end") m ∷ []) (keyword_meaning keyword.End),
+  ap (word_names before (codes "end")) (keyword_meaning keyword.End),
+)
 
 -- the same place of the text with other numbers of lines
 abbrev at : Progress → ℕ → List ℕ → Progress
 at s number places = record { number = number; stage = s.stage; names = s.names; lines = s.lines; places = places }
 
 -- what is left of the program in its canonical text
-pub record Again (s : Progress) (number : ℕ) (places : List ℕ) (all : List (List ℕ)) (p : NamedProgram) : Type 0 where
-  pub lines : List Line
-  pub whole : p.lines ≡ s.lines ++ lines
-  pub fit : AmountsFit lines
-  pub numbers : List ℕ
-  pub reads : reading.ReadsOn (at s number places) (map (line_text all) lines ++ codes "end" ∷ []) (Ok (record { program = p; places = numbers }))
+record Again (s : Progress) (number : ℕ) (places : List ℕ) (all : List (List ℕ)) (p : NamedProgram) : Type 0 where
+  lines : List Line
+  whole : p.lines ≡ s.lines ++ lines
+  ends : lines_of (lines_text all lines ++ end_text) ≡ map (line_text all) lines ++ codes "end" ∷ []
+  numbers : List ℕ
+  reads : reading.ReadsOn (at s number places) (map (line_text all) lines ++ codes "end" ∷ []) (Ok (record { program = p; places = numbers }))
 
 -- nothing stands behind `end`
 after_end : {s : Progress} {lines : List (List ℕ)} {q : ReadProgram} → reading.ReadsOn s lines (Ok q) → s.stage ≡ 4 → q ≡ program_of s
@@ -222,10 +215,10 @@ unfolding nests_too_deep
 end_tokens = verdict.good refl refl grammar.end_line refl
 
 -- the end of the program
-again_end : (s : Progress) (line : List ℕ) (raws : List Raw) (lines : List (List ℕ)) (q : ReadProgram) → Good (tokens_of s.names raws) End →
+again_end : (s : Progress) (raws : List Raw) (lines : List (List ℕ)) (q : ReadProgram) → AreNames q.program.names → Good (tokens_of s.names raws) End →
     may_follow s.stage End ≡ true → reading.ReadsOn (continued s (names_after s.names raws) End) lines (Ok q) →
     (number : ℕ) (places : List ℕ) → Again s number places q.program.names q.program
-again_end s line raws lines q good follow rest number places =
+again_end s raws lines q h good follow rest number places =
     let after = names_after s.names raws in
     let last : q ≡ program_of (continued s after End) = after_end rest refl in
     let numbered = subst (λ xs. is_numbered (length after) (length s.names) xs ≡ true) (no_names good.is) (line_numbered s.names raws) in
@@ -237,10 +230,10 @@ again_end s line raws lines q good follow rest number places =
     record {
       lines = [];
       whole = ap (λ r. r.program.lines) last ∙ sym (append-nil s.lines);
-      fit = tt;
+      ends = end_ends;
       numbers = places;
       reads =
-          reading.placed end_cut (subst (λ ts. verdict.Judged ts (Ok End)) (sym told.0) end_tokens) follow
+          reading.placed (rendered_cuts q.program.names h false tight (Reserved keyword.End ∷ []) refl) (subst (λ ts. verdict.Judged ts (Ok End)) (sym told.0) end_tokens) follow
           (subst (λ p. reading.ReadsOn next [] (Ok (record { program = p; places = places }))) program (reading.ended refl));
     }
   where
@@ -260,9 +253,9 @@ again {s = s} (reading.ended e) early d h number places = absurd (no_end (nat_lt
     no_end false p q = absurd cc
 again (reading.blank e r) early d h number places =
     let rest = again r early d h number places in
-    record { lines = rest.lines; whole = rest.whole; fit = rest.fit; numbers = rest.numbers; reads = rest.reads }
-again {s = s} {q = q} (reading.placed {line = line} {lines = lines} {raw = raw} {raws = raws} {l = End} e j f r) early d h number places =
-    again_end s line (raw ∷ raws) lines q (good_of j) f r number places
+    record { lines = rest.lines; whole = rest.whole; ends = rest.ends; numbers = rest.numbers; reads = rest.reads }
+again {s = s} {q = q} (reading.placed {lines = lines} {raw = raw} {raws = raws} {l = End} e j f r) early d h number places =
+    again_end s (raw ∷ raws) lines q h (good_of j) f r number places
 again {s = s} {q = q} (reading.placed {line = line} {raw = raw} {raws = raws} {l = Program l} e j f r) early d h number places =
     let all = q.program.names in
     let after = names_after s.names (raw ∷ raws) in
@@ -272,7 +265,11 @@ again {s = s} {q = q} (reading.placed {line = line} {raw = raw} {raws = raws} {l
     record {
       lines = l ∷ rest.lines;
       whole = rest.whole ∙ append_assoc s.lines (l ∷ []) rest.lines;
-      fit = (c.fits, rest.fit);
+      ends =
+          ap (λ bs. lines_of (bs ++ end_text)) (flat_map-cons (ended_line all) l rest.lines)
+          ∙ (ap lines_of (append_assoc (line_text all l ++ 10 ∷ []) (lines_text all rest.lines) end_text
+          ∙ append_assoc (line_text all l) (10 ∷ []) (lines_text all rest.lines ++ end_text))
+          ∙ (ended (line_text all l) (lines_text all rest.lines ++ end_text) c.shown ∙ ap (λ ls. line_text all l ∷ ls) rest.ends));
       numbers = rest.numbers;
       reads =
           reading.placed c.cut c.judged f
@@ -287,13 +284,11 @@ reads_back bytes q r =
     let shape = read_program bytes q r in
     let names = are_names q.program.names shape.proper in
     let body = again r refl shape.distinct names 1 [] in
-    let fit = subst AmountsFit (sym body.whole) body.fit in
-    let lines = canonical_lines q.program names shape.shapes fit shape.numbered in
     record {
       places = body.numbers;
       reads =
           subst (λ ls. reading.ReadsOn start ls (Ok (record { program = q.program; places = body.numbers })))
-          (ap (λ ls. map (line_text q.program.names) ls ++ codes "end" ∷ []) (sym body.whole) ∙ sym lines) body.reads;
+          (sym (ap (λ ls. lines_of (lines_text q.program.names ls ++ end_text)) body.whole ∙ body.ends)) body.reads;
     }
 
 pub readable_text : (p : NamedProgram) (text : List ℕ) → IsReadable p → text ≡ canonical_text p → ReadsAs text p

@@ -1,2 +1,5 @@
 pub mod Parts
 pub mod Readable
+pub mod CanonicalTokens
+pub mod Rendering
+pub mod Brackets

@@ -1,5 +1,6 @@
--- Texts that are cut into known raw tokens, whatever follows, or whatever follows that goes on with no word and no number.
-use Rattle.std.proofs.Common.{◌≡◌, inl, inr, ℕ, suc, ◌+◌, ◌-◌, ◌*◌, ◌^◌, ◌<◌, ◌≤◌, List, [], ◌∷◌, ◌++◌, refl, sym, ap, subst, ◌∙◌, arith, append_assoc, length, take}
+-- Words and numbers are cut as one token where what follows goes on with no word and no number, and symbols where the next
+-- byte makes them no longer.
+use Rattle.std.proofs.Common.{◌≡◌, inl, inr, ℕ, suc, ◌+◌, ◌-◌, ◌*◌, ◌^◌, ◌<◌, ◌≤◌, List, [], ◌∷◌, ◌++◌, refl, sym, ap, ◌∙◌, arith, length, take}
 use Rattle.std.specs.Prelude.{◌==◌, ◌/◌, ◌%◌, nat_le, nat_lt, pos, Bool, true, false, ◌&&◌, ◌||◌, if◌then◌else◌, decimal, Option, Some, None}
 use Rattle.std.specs.List.{list_all, prefix_len}
 use Rattle.std.proofs.lemmas.Bool.{leb-true, le-leb, lt-ltb, ne_eqb, both_ways, cond-true, cond-false, and_from, and_parts, and_cases, or_from, or_left, or_right, or_parts, cases_lt, agree_below_at}
@@ -7,15 +8,19 @@ use Rattle.std.proofs.lemmas.Fmt.{decimal_by_steps_wide}
 use Rattle.std.proofs.lemmas.List.{take_at, length-append}
 use Rattle.std.proofs.lemmas.List.Folds.{list_all-append}
 use Rattle.std.proofs.lemmas.List.Sums.{fold_push}
+use Rattle.tcl_text.specs.declared.symbol.Symbol.{Symbol}
+use Rattle.tcl_text.specs.declared.symbol.Symbol.TheVariants as symbol
 use Rattle.tcl_text.specs.declared.token.Raw.{Raw}
-use Rattle.tcl_text.specs.declared.token.Raw.TheVariants.{Word, Number}
+use Rattle.tcl_text.specs.declared.token.Raw.TheVariants.{Word, Number, Sign}
 use Rattle.tcl_text.specs.declared.token.Cut.{Cut}
-use Rattle.tcl_text.specs.Tokens.{is_blank, is_digit, is_letter, is_word_start, is_word_byte, value_of, next_byte, word_cut, number_cut, symbol_cut, cut_of, more_of, attach, raws_from}
+use Rattle.tcl_text.specs.Tokens.{is_blank, is_digit, is_letter, is_word_start, is_word_byte, value_of, next_byte, symbol_here, word_cut, number_cut, symbol_cut, cut_of, more_of, attach, raws_from}
+use Rattle.tcl_text.proofs.NameWords.{is_word}
+use Rattle.tcl_report.specs.Rendering.{symbol_text}
 
--- tokens before others
-abbrev pub put : List Raw → Option (List Raw) → Option (List Raw)
-put raws None = None
-put raws (Some others) = Some (raws ++ others)
+-- a token before others
+abbrev pub put : Raw → Option (List Raw) → Option (List Raw)
+put raw None = None
+put raw (Some others) = Some (raw ∷ others)
 
 -- no word and no number goes on here
 abbrev pub Apart : List ℕ → Type 0
@@ -24,89 +29,6 @@ Apart rest = is_word_byte (next_byte rest) ≡ false
 -- a byte that ends no line
 abbrev pub is_shown : ℕ → Bool
 is_shown b = nat_le 32 b
-
--- a text that is cut into these tokens where what follows stands apart
-pub record Cuts (text : List ℕ) (raws : List Raw) : Type 0 where
-  pub cuts : (rest : List ℕ) → Apart rest → raws_from 0 (text ++ rest) ≡ put raws (raws_from 0 rest)
-  pub shown : list_all is_shown text ≡ true
-
--- a text that is cut into these tokens whatever follows
-pub record AnyCuts (text : List ℕ) (raws : List Raw) : Type 0 where
-  pub cuts : (rest : List ℕ) → raws_from 0 (text ++ rest) ≡ put raws (raws_from 0 rest)
-  pub shown : list_all is_shown text ≡ true
-
--- the same, and the text stands apart from what is before it
-pub record Between (text : List ℕ) (raws : List Raw) : Type 0 where
-  pub cuts : (rest : List ℕ) → raws_from 0 (text ++ rest) ≡ put raws (raws_from 0 rest)
-  pub apart : (rest : List ℕ) → Apart (text ++ rest)
-  pub shown : list_all is_shown text ≡ true
-
--- a text that stands apart from what is before it, or is empty
-pub record Tail (text : List ℕ) (raws : List Raw) : Type 0 where
-  pub cuts : (rest : List ℕ) → Apart rest → raws_from 0 (text ++ rest) ≡ put raws (raws_from 0 rest)
-  pub apart : (rest : List ℕ) → Apart rest → Apart (text ++ rest)
-  pub shown : list_all is_shown text ≡ true
-
-pub put-append : (a b : List Raw) (x : Option (List Raw)) → put (a ++ b) x ≡ put a (put b x)
-put-append a b None = refl
-put-append a b (Some others) = ap Some (append_assoc a b others)
-
-put-nil : (x : Option (List Raw)) → put [] x ≡ x
-put-nil None = refl
-put-nil (Some others) = refl
-
-pub both_shown : (a b : List ℕ) → list_all is_shown a ≡ true → list_all is_shown b ≡ true → list_all is_shown (a ++ b) ≡ true
-both_shown a b e f = list_all-append is_shown a b ∙ and_from (list_all is_shown a) (list_all is_shown b) e f
-
--- texts one after another
-pub cuts_tail : {a b : List ℕ} {r s : List Raw} → Cuts a r → Tail b s → Cuts (a ++ b) (r ++ s)
-cuts_tail {a = a} {b = b} {r = r} {s = s} c d = record {
-  cuts = λ rest apart.
-      ap (raws_from 0) (append_assoc a b rest)
-      ∙ (c.cuts (b ++ rest) (d.apart rest apart)
-      ∙ (ap (put r) (d.cuts rest apart) ∙ sym (put-append r s (raws_from 0 rest))));
-  shown = both_shown a b c.shown d.shown;
-}
-
-pub any_cuts : {a b : List ℕ} {r s : List Raw} → AnyCuts a r → Cuts b s → Cuts (a ++ b) (r ++ s)
-any_cuts {a = a} {b = b} {r = r} {s = s} c d = record {
-  cuts = λ rest apart.
-      ap (raws_from 0) (append_assoc a b rest)
-      ∙ (c.cuts (b ++ rest) ∙ (ap (put r) (d.cuts rest apart) ∙ sym (put-append r s (raws_from 0 rest))));
-  shown = both_shown a b c.shown d.shown;
-}
-
-pub between_cuts : {a b : List ℕ} {r s : List Raw} → Between a r → Cuts b s → Tail (a ++ b) (r ++ s)
-between_cuts {a = a} {b = b} {r = r} {s = s} c d = record {
-  cuts = λ rest apart.
-      ap (raws_from 0) (append_assoc a b rest)
-      ∙ (c.cuts (b ++ rest) ∙ (ap (put r) (d.cuts rest apart) ∙ sym (put-append r s (raws_from 0 rest))));
-  apart = λ rest apart. subst Apart (sym (append_assoc a b rest)) (c.apart (b ++ rest));
-  shown = both_shown a b c.shown d.shown;
-}
-
-pub tail_tail : {a b : List ℕ} {r s : List Raw} → Tail a r → Tail b s → Tail (a ++ b) (r ++ s)
-tail_tail {a = a} {b = b} {r = r} {s = s} c d = record {
-  cuts = λ rest apart.
-      ap (raws_from 0) (append_assoc a b rest)
-      ∙ (c.cuts (b ++ rest) (d.apart rest apart)
-      ∙ (ap (put r) (d.cuts rest apart) ∙ sym (put-append r s (raws_from 0 rest))));
-  apart = λ rest apart. subst Apart (sym (append_assoc a b rest)) (c.apart (b ++ rest) (d.apart rest apart));
-  shown = both_shown a b c.shown d.shown;
-}
-
-pub no_tail : Tail [] []
-no_tail = record { cuts = λ rest apart. sym (put-nil (raws_from 0 rest)); apart = λ rest apart. apart; shown = refl }
-
-pub cuts_nil : {a : List ℕ} {r : List Raw} → Cuts a r → Cuts (a ++ []) (r ++ [])
-cuts_nil c = cuts_tail c no_tail
-
-pub between_tail : {a : List ℕ} {r : List Raw} → Between a r → Tail a r
-between_tail c = record { cuts = λ rest apart. c.cuts rest; apart = λ rest apart. c.apart rest; shown = c.shown }
-
--- two texts with one between them
-pub cuts_between : {a m b : List ℕ} {r q s : List Raw} → Cuts a r → Between m q → Cuts b s → Cuts (a ++ (m ++ b)) (r ++ (q ++ s))
-cuts_between c m d = cuts_tail c (between_cuts m d)
 
 -- bytes
 pub not_byte : (p : ℕ → Bool) (b c : ℕ) → p b ≡ true → p c ≡ false → (b == c) ≡ false
@@ -119,7 +41,7 @@ shown_byte b e =
       | inr high ↦ le-leb 32 b high
     ]
 
-shown_word : (others : List ℕ) → list_all is_word_byte others ≡ true → list_all is_shown others ≡ true
+pub shown_word : (others : List ℕ) → list_all is_word_byte others ≡ true → list_all is_shown others ≡ true
 shown_word [] e = refl
 shown_word (b ∷ others) e =
     let parts = and_parts (is_word_byte b) (list_all is_word_byte others) e in
@@ -160,7 +82,7 @@ unfolding raws_from
 skip [] rest = refl
 skip (b ∷ others) rest = skip others rest
 
-pub attach_is : (c : Cut) (x : Option (List Raw)) → attach (Some c) x ≡ put (c.token ∷ []) x
+attach_is : (c : Cut) (x : Option (List Raw)) → attach (Some c) x ≡ put c.token x
 attach_is c None = refl
 attach_is c (Some others) = refl
 
@@ -183,18 +105,28 @@ word_step b others rest e f g apart =
     ∙ (cond-true (nat_le (length others) 63) (Some (record { token = Word (b ∷ take (length others) (others ++ rest)); more = length others })) None g
     ∙ ap (λ ys. Some (record { token = Word (b ∷ ys); more = length others })) (take_at others rest (length others) refl)))
 
-pub word_cuts : (b : ℕ) (others : List ℕ) → is_word_start b ≡ true → list_all is_word_byte others ≡ true →
-    nat_le (length others) 63 ≡ true → Cuts (b ∷ others) (Word (b ∷ others) ∷ [])
-word_cuts b others e f g = record {
-  cuts = λ rest apart.
-      cut_step b (others ++ rest) (record { token = Word (b ∷ others); more = length others })
-      (or_from (b == 32) (b == 9) (not_byte is_word_start b 32 e refl) (not_byte is_word_start b 9 e refl))
-      (not_byte is_word_start b 35 e refl) (word_step b others rest e f g apart)
-      ∙ (attach_is (record { token = Word (b ∷ others); more = length others }) (raws_from (length others) (others ++ rest))
-      ∙ ap (put (Word (b ∷ others) ∷ [])) (skip others rest));
-  shown =
-      and_from (is_shown b) (list_all is_shown others) (shown_byte b (or_left (is_word_start b) (is_digit b) e)) (shown_word others f);
-}
+-- a text that is cut as one token: its first byte is no `=`, and its bytes end no line
+pub record IsOne (text : List ℕ) (raw : Raw) : Type 0 where
+  pub cut : (rest : List ℕ) → Apart rest → raws_from 0 (text ++ rest) ≡ put raw (raws_from 0 rest)
+  pub first : (rest : List ℕ) → (next_byte (text ++ rest) == 61) ≡ false
+  pub shown : list_all is_shown text ≡ true
+
+pub word_is_one : (w : List ℕ) → is_word w ≡ true → IsOne w (Word w)
+word_is_one [] e = absurd cc
+word_is_one (b ∷ others) h =
+    let two = and_parts (is_word_start b && list_all is_word_byte others) (nat_le (length others) 63) h in
+    let one = and_parts (is_word_start b) (list_all is_word_byte others) two.0 in
+    let e = one.0 in
+    let c : Cut = record { token = Word (b ∷ others); more = length others } in
+    record {
+      cut = λ rest apart.
+          cut_step b (others ++ rest) c (or_from (b == 32) (b == 9) (not_byte is_word_start b 32 e refl) (not_byte is_word_start b 9 e refl))
+          (not_byte is_word_start b 35 e refl) (word_step b others rest e one.1 two.1 apart)
+          ∙ (attach_is c (raws_from (length others) (others ++ rest)) ∙ ap (put (Word (b ∷ others))) (skip others rest));
+      first = λ rest. not_byte is_word_start b 61 e refl;
+      shown =
+          and_from (is_shown b) (list_all is_shown others) (shown_byte b (or_left (is_word_start b) (is_digit b) e)) (shown_word others one.1);
+    }
 
 -- a number
 pub record IsDecimal (n : ℕ) (ds : List ℕ) : Type 0 where
@@ -243,19 +175,66 @@ number_step n b others rest h p apart =
     ∙ (ap (λ v. if nat_lt v (2 ^ 127) then Some (record { token = Number (pos v); more = length others }) else None) p.value
     ∙ cond-true (nat_lt n (2 ^ 127)) (Some (record { token = Number (pos n); more = length others })) None (lt-ltb n (2 ^ 127) h)))))
 
-digits_cut : (n : ℕ) (ds : List ℕ) → n < 2 ^ 127 → IsDecimal n ds → Cuts ds (Number (pos n) ∷ [])
-digits_cut n [] h p = let q = p.some in absurd (omega (arith, q))
-digits_cut n (b ∷ others) h p =
-    let first = (and_parts (is_digit b) (list_all is_digit others) p.digits).0 in
+digits_are_one : (n : ℕ) (ds : List ℕ) → n < 2 ^ 127 → IsDecimal n ds → IsOne ds (Number (pos n))
+digits_are_one n [] h p = let q = p.some in absurd (omega (arith, q))
+digits_are_one n (b ∷ others) h p =
+    let e = (and_parts (is_digit b) (list_all is_digit others) p.digits).0 in
+    let c : Cut = record { token = Number (pos n); more = length others } in
     record {
-      cuts = λ rest apart.
-          cut_step b (others ++ rest) (record { token = Number (pos n); more = length others })
-          (or_from (b == 32) (b == 9) (not_byte is_digit b 32 first refl) (not_byte is_digit b 9 first refl))
-          (not_byte is_digit b 35 first refl) (number_step n b others rest h p apart)
-          ∙ (attach_is (record { token = Number (pos n); more = length others }) (raws_from (length others) (others ++ rest))
-          ∙ ap (put (Number (pos n) ∷ [])) (skip others rest));
+      cut = λ rest apart.
+          cut_step b (others ++ rest) c (or_from (b == 32) (b == 9) (not_byte is_digit b 32 e refl) (not_byte is_digit b 9 e refl))
+          (not_byte is_digit b 35 e refl) (number_step n b others rest h p apart)
+          ∙ (attach_is c (raws_from (length others) (others ++ rest)) ∙ ap (put (Number (pos n))) (skip others rest));
+      first = λ rest. not_byte is_digit b 61 e refl;
       shown = shown_word (b ∷ others) (digit_word_bytes (b ∷ others) p.digits);
     }
 
-pub number_cuts : (n : ℕ) → n < 2 ^ 127 → Cuts (decimal n) (Number (pos n) ∷ [])
-number_cuts n h = digits_cut n (decimal n) h (decimal_is n h)
+pub number_is_one : (n : ℕ) → n < 2 ^ 127 → IsOne (decimal n) (Number (pos n))
+number_is_one n h = digits_are_one n (decimal n) h (decimal_is n h)
+
+-- the bytes that make a symbol longer do not follow it
+abbrev pub Follows : Symbol → List ℕ → Type 0
+Follows symbol.Star rest = (next_byte rest == 42) ≡ false
+Follows symbol.Ampersand rest = (next_byte rest == 38) ≡ false
+Follows symbol.Bar rest = (next_byte rest == 124) ≡ false
+Follows symbol.Less rest = (next_byte rest == 61) ≡ false
+Follows symbol.Greater rest = (next_byte rest == 61) ≡ false
+Follows symbol.Bang rest = (next_byte rest == 61) ≡ false
+Follows _ rest = Unit {0}
+
+-- the cut of a symbol
+abbrev sign_cut : Symbol → ℕ → Cut
+sign_cut s more = record { token = Sign s; more = more }
+
+-- a symbol that a byte would make longer
+short_cut : (long short : Symbol) (rest : List ℕ) (b : Bool) → b ≡ false →
+    attach (symbol_here (if b then Some long else None) (Some short)) (raws_from (more_of (symbol_here (if b then Some long else None) (Some short))) rest)
+    ≡ put (Sign short) (raws_from 0 rest)
+short_cut long short rest true e = absurd cc
+short_cut long short rest false e = attach_is (sign_cut short 0) (raws_from 0 rest)
+
+pub symbol_cuts : (s : Symbol) (rest : List ℕ) → Follows s rest → raws_from 0 (symbol_text s ++ rest) ≡ put (Sign s) (raws_from 0 rest)
+unfolding raws_from cut_of symbol_cut
+symbol_cuts symbol.StarStar rest f = attach_is (sign_cut symbol.StarStar 1) (raws_from 0 rest)
+symbol_cuts symbol.AndAnd rest f = attach_is (sign_cut symbol.AndAnd 1) (raws_from 0 rest)
+symbol_cuts symbol.BarBar rest f = attach_is (sign_cut symbol.BarBar 1) (raws_from 0 rest)
+symbol_cuts symbol.NotEqual rest f = attach_is (sign_cut symbol.NotEqual 1) (raws_from 0 rest)
+symbol_cuts symbol.LessEqual rest f = attach_is (sign_cut symbol.LessEqual 1) (raws_from 0 rest)
+symbol_cuts symbol.GreaterEqual rest f = attach_is (sign_cut symbol.GreaterEqual 1) (raws_from 0 rest)
+symbol_cuts symbol.Star rest f = short_cut symbol.StarStar symbol.Star rest (next_byte rest == 42) f
+symbol_cuts symbol.Ampersand rest f = short_cut symbol.AndAnd symbol.Ampersand rest (next_byte rest == 38) f
+symbol_cuts symbol.Bar rest f = short_cut symbol.BarBar symbol.Bar rest (next_byte rest == 124) f
+symbol_cuts symbol.Less rest f = short_cut symbol.LessEqual symbol.Less rest (next_byte rest == 61) f
+symbol_cuts symbol.Greater rest f = short_cut symbol.GreaterEqual symbol.Greater rest (next_byte rest == 61) f
+symbol_cuts symbol.Bang rest f = short_cut symbol.NotEqual symbol.Bang rest (next_byte rest == 61) f
+symbol_cuts symbol.Plus rest f = attach_is (sign_cut symbol.Plus 0) (raws_from 0 rest)
+symbol_cuts symbol.Minus rest f = attach_is (sign_cut symbol.Minus 0) (raws_from 0 rest)
+symbol_cuts symbol.Caret rest f = attach_is (sign_cut symbol.Caret 0) (raws_from 0 rest)
+symbol_cuts symbol.Tilde rest f = attach_is (sign_cut symbol.Tilde 0) (raws_from 0 rest)
+symbol_cuts symbol.Equal rest f = attach_is (sign_cut symbol.Equal 0) (raws_from 0 rest)
+symbol_cuts symbol.Open rest f = attach_is (sign_cut symbol.Open 0) (raws_from 0 rest)
+symbol_cuts symbol.Close rest f = attach_is (sign_cut symbol.Close 0) (raws_from 0 rest)
+symbol_cuts symbol.OpenSquare rest f = attach_is (sign_cut symbol.OpenSquare 0) (raws_from 0 rest)
+symbol_cuts symbol.CloseSquare rest f = attach_is (sign_cut symbol.CloseSquare 0) (raws_from 0 rest)
+symbol_cuts symbol.Comma rest f = attach_is (sign_cut symbol.Comma 0) (raws_from 0 rest)
+symbol_cuts symbol.At rest f = attach_is (sign_cut symbol.At 0) (raws_from 0 rest)
