@@ -47,13 +47,8 @@ all_sound count [] f e = refl
 all_sound count (Name x ∷ ts) f e =
     let parts = and_parts (nat_lt x count) (are_below count (token_names ts)) e in
     and_from (nat_lt x count) (list_all (is_sound count) ts) parts.0 (all_sound count ts (fit_rest (Name x) ts f) parts.1)
-all_sound count (Number n ∷ ts) f e =
-    and_from (is_number n) (list_all (is_sound count) ts) (fit_first (Number n) ts f) (all_sound count ts (fit_rest (Number n) ts f) e)
-all_sound count (Kind T ∷ ts) f e =
-    and_from (is_ty T) (list_all (is_sound count) ts) (fit_first (Kind T) ts f) (all_sound count ts (fit_rest (Kind T) ts f) e)
-all_sound count (Instruction o ∷ ts) f e = all_sound count ts (fit_rest (Instruction o) ts f) e
-all_sound count (Reserved k ∷ ts) f e = all_sound count ts (fit_rest (Reserved k) ts f) e
-all_sound count (Sign s ∷ ts) f e = all_sound count ts (fit_rest (Sign s) ts f) e
+all_sound count (token ∷ ts) f e =
+    and_from (is_fit token) (list_all (is_sound count) ts) (fit_first token ts f) (all_sound count ts (fit_rest token ts f) e)
 
 -- the words of types, instructions and lines
 sign_start : (b : Bool) → is_word_start (if b then 115 else 117) ≡ true
@@ -121,16 +116,12 @@ module _ (names : List (List ℕ)) (h : AreNames names) where
   -- behind an operator or a comma
   calm_behind : (listed : Bool) (ts : List Token) → is_calm (next_byte (rendered names listed loose ts)) ≡ true
   calm_behind listed [] = refl
-  calm_behind listed (Name x ∷ ts) = refl
-  calm_behind listed (Number n ∷ ts) = refl
-  calm_behind listed (Kind T ∷ ts) = refl
-  calm_behind listed (Instruction o ∷ ts) = refl
-  calm_behind listed (Reserved k ∷ ts) = refl
   calm_behind listed (Sign s ∷ ts) = by s
     where
       by : (s : Symbol) → is_calm (next_byte (rendered names listed loose (Sign s ∷ ts))) ≡ true
       by Close = refl
       by _ = refl
+  calm_behind listed (_ ∷ ts) = refl
 
   -- behind a `!`
   no_equal : (listed : Bool) (ts : List Token) → list_all (is_sound (length names)) ts ≡ true → (next_byte (rendered names listed tight ts) == 61) ≡ false
@@ -150,26 +141,17 @@ module _ (names : List (List ℕ)) (h : AreNames names) where
   apart_behind : (listed : Bool) (before : Before) (ts : List Token) → is_tight before ≡ false → Apart (rendered names listed before ts)
   apart_behind listed tight ts e = absurd cc
   apart_behind listed before [] e = refl
-  apart_behind listed loose (Name x ∷ ts) e = refl
-  apart_behind listed loose (Number n ∷ ts) e = refl
-  apart_behind listed loose (Kind T ∷ ts) e = refl
-  apart_behind listed loose (Instruction o ∷ ts) e = refl
-  apart_behind listed loose (Reserved k ∷ ts) e = refl
-  apart_behind listed loose (Sign s ∷ ts) e = by s
+  apart_behind listed before (Sign s ∷ ts) e = by before s
     where
-      by : (s : Symbol) → Apart (rendered names listed loose (Sign s ∷ ts))
-      by Close = refl
-      by _ = refl
-  apart_behind listed ended (Name x ∷ ts) e = refl
-  apart_behind listed ended (Number n ∷ ts) e = refl
-  apart_behind listed ended (Kind T ∷ ts) e = refl
-  apart_behind listed ended (Instruction o ∷ ts) e = refl
-  apart_behind listed ended (Reserved k ∷ ts) e = refl
-  apart_behind listed ended (Sign s ∷ ts) e = by s
-    where
-      by : (s : Symbol) → Apart (rendered names listed ended (Sign s ∷ ts))
-      by Close = refl
-      by _ = refl
+      by : (before : Before) (s : Symbol) → Apart (rendered names listed before (Sign s ∷ ts))
+      by tight Close = refl
+      by loose Close = refl
+      by ended Close = refl
+      by tight _ = refl
+      by loose _ = refl
+      by ended _ = refl
+  apart_behind listed loose (_ ∷ ts) e = refl
+  apart_behind listed ended (_ ∷ ts) e = refl
 
   word_ends : (listed : Bool) → is_tight (if listed then loose else ended) ≡ false
   word_ends true = refl

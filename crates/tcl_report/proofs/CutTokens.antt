@@ -227,14 +227,4 @@ symbol_cuts symbol.Bar rest f = short_cut symbol.BarBar symbol.Bar rest (next_by
 symbol_cuts symbol.Less rest f = short_cut symbol.LessEqual symbol.Less rest (next_byte rest == 61) f
 symbol_cuts symbol.Greater rest f = short_cut symbol.GreaterEqual symbol.Greater rest (next_byte rest == 61) f
 symbol_cuts symbol.Bang rest f = short_cut symbol.NotEqual symbol.Bang rest (next_byte rest == 61) f
-symbol_cuts symbol.Plus rest f = attach_is (sign_cut symbol.Plus 0) (raws_from 0 rest)
-symbol_cuts symbol.Minus rest f = attach_is (sign_cut symbol.Minus 0) (raws_from 0 rest)
-symbol_cuts symbol.Caret rest f = attach_is (sign_cut symbol.Caret 0) (raws_from 0 rest)
-symbol_cuts symbol.Tilde rest f = attach_is (sign_cut symbol.Tilde 0) (raws_from 0 rest)
-symbol_cuts symbol.Equal rest f = attach_is (sign_cut symbol.Equal 0) (raws_from 0 rest)
-symbol_cuts symbol.Open rest f = attach_is (sign_cut symbol.Open 0) (raws_from 0 rest)
-symbol_cuts symbol.Close rest f = attach_is (sign_cut symbol.Close 0) (raws_from 0 rest)
-symbol_cuts symbol.OpenSquare rest f = attach_is (sign_cut symbol.OpenSquare 0) (raws_from 0 rest)
-symbol_cuts symbol.CloseSquare rest f = attach_is (sign_cut symbol.CloseSquare 0) (raws_from 0 rest)
-symbol_cuts symbol.Comma rest f = attach_is (sign_cut symbol.Comma 0) (raws_from 0 rest)
-symbol_cuts symbol.At rest f = attach_is (sign_cut symbol.At 0) (raws_from 0 rest)
+symbol_cuts s rest f = attach_is (sign_cut s 0) (raws_from 0 rest)

@@ -1,5 +1,4 @@
 pub mod TextLemmas
-pub mod Chains
 pub mod Leaner
 pub mod ReadTrees
 pub mod ReadLines

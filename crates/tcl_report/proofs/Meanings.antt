@@ -1,8 +1,8 @@
 -- What the words of a canonical text mean: types, instructions and the words of lines.
-use Rattle.std.proofs.Common.{◌≡◌, ℕ, zero, suc, ◌<◌, inl, inr, refl, sym, ap, subst, ◌∙◌, arith}
-use Rattle.std.specs.Prelude.{◌==◌, nat_le, Bool, true, false, ◌&&◌, if◌then◌else◌, Option, Some, None}
+use Rattle.std.proofs.Common.{◌≡◌, ℕ, ◌<◌, refl, sym, ap, ◌∙◌, arith}
+use Rattle.std.specs.Prelude.{◌==◌, nat_le, Bool, true, false, not, ◌&&◌, ◌||◌, if◌then◌else◌, Option, Some, None}
 use Rattle.std.specs.Fmt.{digits}
-use Rattle.std.proofs.lemmas.Bool.{leb-true, eqb-true, and_parts, cases_eq}
+use Rattle.std.proofs.lemmas.Bool.{leb-true, eqb-true, and_parts, agree_below, agree_below_at}
 use Rattle.tcl_lang.specs.declared.ty.Ty.{Ty}
 use Rattle.tcl_lang.specs.declared.instr.Op.{Op}
 use Rattle.tcl_lang.specs.declared.instr.Op.TheVariants as op
@@ -42,40 +42,20 @@ same_kind_is (Some (Reserved k)) T e = absurd cc
 same_kind_is (Some (Sign s)) T e = absurd cc
 same_kind_is None T e = absurd cc
 
--- each type below a width is meant by its word
-abbrev all_kinds : Bool → ℕ → Bool
-all_kinds signed zero = true
-all_kinds signed (suc w) =
-    (if is_ty (ty_of signed w) then same_kind (meaning_of (type_text (ty_of signed w))) (ty_of signed w) else true) && all_kinds signed w
+-- each type is meant by its word
+is_kind : Bool → ℕ → Bool
+is_kind signed w = not (is_ty (ty_of signed w)) || same_kind (meaning_of (type_text (ty_of signed w))) (ty_of signed w)
 
-kinds_at : (signed : Bool) (k w : ℕ) → all_kinds signed k ≡ true → w < k → is_ty (ty_of signed w) ≡ true →
-    same_kind (meaning_of (type_text (ty_of signed w))) (ty_of signed w) ≡ true
-kinds_at signed zero w e low h = absurd (omega (arith, low))
-kinds_at signed (suc k) w e low h =
-    let test : Bool = if is_ty (ty_of signed k) then same_kind (meaning_of (type_text (ty_of signed k))) (ty_of signed k) else true in
-    let parts = and_parts test (all_kinds signed k) e in
-    elim (cases_eq w k) [
-      | inl here ↦ at_last here parts.0
-      | inr other ↦ kinds_at signed k w parts.1 (omega (arith, low, other)) h
-    ]
-  where
-    at_last : w ≡ k → (if is_ty (ty_of signed k) then same_kind (meaning_of (type_text (ty_of signed k))) (ty_of signed k) else true) ≡ true →
-        same_kind (meaning_of (type_text (ty_of signed w))) (ty_of signed w) ≡ true
-    at_last here p =
-        let q = subst (λ k. (if is_ty (ty_of signed k) then same_kind (meaning_of (type_text (ty_of signed k))) (ty_of signed k) else true) ≡ true) (sym here) p in
-        sym (ap (λ b. if b then same_kind (meaning_of (type_text (ty_of signed w))) (ty_of signed w) else true) h) ∙ q
-
-signed_kinds : all_kinds true 65 ≡ true
-unfolding meaning_of digits
-signed_kinds = refl
-
-unsigned_kinds : all_kinds false 65 ≡ true
-unfolding meaning_of digits
-unsigned_kinds = refl
+all_kinds : (signed : Bool) → agree_below (is_kind signed) (λ _. true) 65 ≡ true
+unfolding is_kind meaning_of digits
+all_kinds true = refl
+all_kinds false = refl
 
 kind_of : (signed : Bool) (w : ℕ) → w < 65 → is_ty (ty_of signed w) ≡ true → same_kind (meaning_of (type_text (ty_of signed w))) (ty_of signed w) ≡ true
-kind_of true w low h = kinds_at true 65 w signed_kinds low h
-kind_of false w low h = kinds_at false 65 w unsigned_kinds low h
+unfolding is_kind
+kind_of signed w low h =
+    sym (ap (λ b. not b || same_kind (meaning_of (type_text (ty_of signed w))) (ty_of signed w)) h)
+    ∙ agree_below_at (is_kind signed) (λ _. true) 65 w (all_kinds signed) low
 
 pub kind_meaning : (T : Ty) → is_ty T ≡ true → meaning_of (type_text T) ≡ Some (Kind T)
 kind_meaning T e =

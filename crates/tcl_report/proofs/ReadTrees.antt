@@ -40,7 +40,18 @@ use Rattle.tcl_text.specs.Grammar.{capped}
 use Rattle.tcl_text.proofs.Shapes.{is_fit, Fit, fit_first, fit_rest}
 use Rattle.tcl_report.specs.CanonicalTokens.{Written, opening, closing, bracketed, placed, chain_place, joint_symbol, comparison_symbol, joint_place, joint_written, signed_written, plain_written, power_written, leaf_written, compare_written, literal_tokens, atom_tokens, term_written_step, range_written_step, range_written, pred_written_step, tree_written, tree_tokens}
 use Rattle.tcl_report.proofs.Leaner.{Plain, Leaner, none, plain, kept, both, around, without, kept_low, leaner_fit}
-use Rattle.tcl_report.proofs.Chains.{chain_snoc}
+
+-- a chain with one operator more at its end
+more_snoc : {s : Sort} {n : ℕ} {t u v : Tree s} {ts us vs : List Token} (token : Token) (o : Joint s) →
+    grammar.More s n t ts u (token ∷ us) → height s token ≡ suc n → joint_of s token ≡ Some o →
+    grammar.Chain s n us v vs → grammar.More s n t ts (joined s o u v) vs
+more_snoc token o grammar.stop h j c = grammar.more h j c grammar.stop
+more_snoc token o (grammar.more h' j' c' m) h j c = grammar.more h' j' c' (more_snoc token o m h j c)
+
+chain_snoc : {s : Sort} {n : ℕ} {u v : Tree s} {ts us vs : List Token} (token : Token) (o : Joint s) →
+    grammar.Chain s (suc n) ts u (token ∷ us) → height s token ≡ suc n → joint_of s token ≡ Some o →
+    grammar.Chain s n us v vs → grammar.Chain s (suc n) ts (joined s o u v) vs
+chain_snoc token o (grammar.chain c m) h j d = grammar.chain c (more_snoc token o m h j d)
 
 -- what a tree at a place is read as; behind `-` a range term does not begin with a literal
 abbrev pub At : (s : Sort) → ℕ → List Token → Tree s → List Token → Type 0
@@ -142,11 +153,8 @@ in_brackets {s = s} {w = w} {ts = ts} {us = us} k c h = record {
     by false l = around s l
 
 -- the trees by their layers
-abbrev TermIs : ℕ → Term → List Token → List Token → Type 0
-TermIs k t ts us = Canonical alg k (tree_written alg t) t ts us
-
 term_built : {k : ℕ} {t : Term} {ts us : List Token} (y : Term-F Term) → roll-Term y ≡ t →
-    Canonical alg k (term_written_step (map-Term Term Written (tree_written alg) y)) t ts us → TermIs k t ts us
+    Canonical alg k (term_written_step (map-Term Term Written (tree_written alg) y)) t ts us → Canonical alg k (tree_written alg t) t ts us
 term_built {k = k} {t = t} {ts = ts} {us = us} y e c =
     subst (λ w. Canonical alg k w t ts us) (sym (ap (tree_written alg) (sym e) ∙ fold-roll-Term Written term_written_step y)) c
 
@@ -185,14 +193,9 @@ record IsJoint (s : Sort) (o : Joint s) : Type 0 where
 
 joint_is : (s : Sort) (o : Joint s) → IsJoint s o
 joint_is alg term_op.Plus = record { plain = λ d. refl; is = refl; low = omega arith }
-joint_is alg term_op.Minus = record { plain = λ d. refl; is = refl; low = omega arith }
-joint_is alg term_op.Times = record { plain = λ d. refl; is = refl; low = omega arith }
+joint_is alg _ = record { plain = λ d. refl; is = refl; low = omega arith }
 joint_is wrd range_op.Add = record { plain = λ d. refl; is = refl; low = omega arith }
-joint_is wrd range_op.Sub = record { plain = λ d. refl; is = refl; low = omega arith }
-joint_is wrd range_op.Mul = record { plain = λ d. refl; is = refl; low = omega arith }
-joint_is wrd range_op.And = record { plain = λ d. refl; is = refl; low = omega arith }
-joint_is wrd range_op.Or = record { plain = λ d. refl; is = refl; low = omega arith }
-joint_is wrd range_op.Xor = record { plain = λ d. refl; is = refl; low = omega arith }
+joint_is wrd _ = record { plain = λ d. refl; is = refl; low = omega arith }
 joint_is prd pred_op.And = record { plain = λ d. refl; is = refl; low = omega arith }
 joint_is prd pred_op.Or = record { plain = λ d. refl; is = refl; low = omega arith }
 
@@ -252,19 +255,11 @@ comparison_at token op e = absurd cc
 
 compared : (op : CmpOp) → comparison_of (Sign (comparison_symbol op)) ≡ Some op
 compared comparison.Eq = refl
-compared comparison.Ne = refl
-compared comparison.Lt = refl
-compared comparison.Le = refl
-compared comparison.Gt = refl
-compared comparison.Ge = refl
+compared _ = refl
 
 comparison_plain : (op : CmpOp) → Plain (Sign (comparison_symbol op))
 comparison_plain comparison.Eq d = refl
-comparison_plain comparison.Ne d = refl
-comparison_plain comparison.Lt d = refl
-comparison_plain comparison.Le d = refl
-comparison_plain comparison.Gt d = refl
-comparison_plain comparison.Ge d = refl
+comparison_plain _ d = refl
 
 compare_found : {w v : Written} {t u : RngTerm} {ts us vs : List Token} (op : CmpOp) → w ≡ range_written t → v ≡ range_written u →
     Canonical wrd 7 w t ts (Sign (comparison_symbol op) ∷ us) → Canonical wrd 7 v u us vs →
