@@ -1,6 +1,6 @@
 -- The rendering of tokens is cut into these tokens: the rule for the space between two neighbours keeps every two of them
 -- apart, and so one induction over the list is enough.
-use Rattle.std.proofs.Common.{◌≡◌, ℕ, ◌^◌, ◌<◌, ◌≤◌, List, [], ◌∷◌, ◌++◌, refl, sym, ap, subst, ◌∙◌, arith, length, map}
+use Rattle.std.proofs.Common.{◌≡◌, ℕ, ◌^◌, ◌<◌, List, [], ◌∷◌, ◌++◌, refl, ap, ◌∙◌, arith, length, map}
 use Rattle.std.specs.Prelude.{◌==◌, nat_le, nat_lt, ℤ, pos, negsuc, int_le, int_lt, Bool, true, false, not, ◌&&◌, ◌||◌, if◌then◌else◌, decimal, Some, None}
 use Rattle.std.specs.List.{list_all}
 use Rattle.std.proofs.lemmas.Bool.{leb-true, ltb-true, le-leb, and_from, and_parts}
@@ -19,13 +19,13 @@ use Rattle.tcl_text.specs.declared.token.Raw.{Raw}
 use Rattle.tcl_text.specs.declared.token.Raw.TheVariants as raw
 use Rattle.tcl_text.specs.declared.token.Token.{Token}
 use Rattle.tcl_text.specs.declared.token.Token.TheVariants.{Name, Number, Kind, Instruction, Reserved, Sign}
-use Rattle.tcl_text.specs.Tokens.{is_word_start, is_word_byte, next_byte, raws_from, raws_of}
+use Rattle.tcl_text.specs.Tokens.{is_word_start, is_word_byte, next_byte, raws_from}
 use Rattle.tcl_text.specs.Words.{word_of_op, word_of_keyword, meaning_of}
 use Rattle.tcl_text.specs.Canonical.{name_text, type_text}
 use Rattle.tcl_text.proofs.NameWords.{is_word}
 use Rattle.tcl_text.proofs.Shapes.{is_fit, Fit, fit_first, fit_rest}
 use Rattle.tcl_text.proofs.TreeNames.{token_names}
-use Rattle.tcl_report.specs.Rendering.{Before, tight, loose, ended, symbol_text, token_text, is_tight, is_held, space_unless, gap, behind_symbol, behind, rendered, rendering, is_listed}
+use Rattle.tcl_report.specs.Rendering.{Before, tight, loose, ended, symbol_text, token_text, is_tight, is_held, space_unless, gap, behind_symbol, behind, rendered}
 use Rattle.tcl_report.proofs.CutTokens.{put, Apart, is_shown, not_byte, IsOne, word_is_one, decimal_is, digit_word_bytes, number_is_one, Follows, symbol_cuts}
 
 -- the names of a program: words that mean nothing else

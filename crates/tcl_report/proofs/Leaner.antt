@@ -1,10 +1,10 @@
 -- A list of tokens that begins with given tokens, where some parts may stand in more brackets: it has no fewer tokens of any
 -- kind, and its brackets nest no less deep.
-use Rattle.std.proofs.Common.{◌≡◌, ℕ, ◌+◌, ◌-◌, ◌≤◌, List, [], ◌∷◌, ◌++◌, refl, sym, ap, subst, ◌∙◌, inl, inr, arith, append_assoc}
+use Rattle.std.proofs.Common.{◌≡◌, ℕ, ◌+◌, ◌≤◌, List, [], ◌∷◌, ◌++◌, refl, sym, ap, subst, ◌∙◌, arith, append_assoc}
 use Rattle.std.specs.Prelude.{ℤ, pos, min, unsigned_abs, int_lt, Bool, true, false, ◌||◌, cond, if◌then◌else◌, count_by, nat_lt}
 use Rattle.std.specs.List.{list_all}
-use Rattle.std.proofs.lemmas.Bool.{and_from, and_parts}
-use Rattle.std.proofs.lemmas.Bool.Decides.{leb_tells, nat_tests}
+use Rattle.std.proofs.lemmas.Bool.{and_from, or_parts}
+use Rattle.std.proofs.lemmas.Bool.Decides.{nat_tests}
 use Rattle.std.proofs.lemmas.List.Folds.{list_all-append}
 use Rattle.std.proofs.lemmas.List.Sums.{sum_by-cons, sum_by-append}
 use Rattle.tcl_lang.specs.Shape.{is_number}
@@ -95,14 +95,6 @@ leaner_fit (without s l) f = leaner_fit l f
 abbrev pub Shallow : ℕ → List Token → Type 0
 Shallow d ts = nests_too_deep d ts ≡ false
 
-or_left : (a b : Bool) → (a || b) ≡ false → a ≡ false
-or_left true b e = absurd cc
-or_left false b e = refl
-
-or_right : (a b : Bool) → (a || b) ≡ false → b ≡ false
-or_right true b e = absurd cc
-or_right false b e = e
-
 not_more : (x : ℕ) → nat_lt 64 x ≡ false → x ≤ 64
 not_more x e = grind (arith, nat_tests)
 
@@ -112,10 +104,9 @@ no_more x h = grind (arith, nat_tests)
 -- behind one token d brackets are open
 first_of : (c d : ℕ) (token : Token) (ts : List Token) → depth_after c token ≡ d → Shallow c (token ∷ ts) → (d ≤ 64) × Shallow d ts
 unfolding nests_too_deep
-first_of c d token ts e f = (
-  subst (λ n. n ≤ 64) e (not_more (depth_after c token) (or_left (nat_lt 64 (depth_after c token)) (nests_too_deep (depth_after c token) ts) f)),
-  subst (λ n. Shallow n ts) e (or_right (nat_lt 64 (depth_after c token)) (nests_too_deep (depth_after c token) ts) f),
-)
+first_of c d token ts e f =
+    let parts = or_parts (nat_lt 64 (depth_after c token)) (nests_too_deep (depth_after c token) ts) f in
+    (subst (λ n. n ≤ 64) e (not_more (depth_after c token) parts.0), subst (λ n. Shallow n ts) e parts.1)
 
 one_more : (c d : ℕ) (token : Token) (ts : List Token) → depth_after c token ≡ d → d ≤ 64 → Shallow d ts → Shallow c (token ∷ ts)
 unfolding nests_too_deep

@@ -1,6 +1,6 @@
 -- The canonical text of a line is the rendering of its tokens.
 use Rattle.std.proofs.Common.{◌≡◌, ℕ, List, [], ◌∷◌, ◌++◌, refl, sym, ap, ◌∙◌, arith, append_assoc, append-nil}
-use Rattle.std.specs.Prelude.{ℤ, pos, negsuc, int_lt, Bool, true, false, if◌then◌else◌, map, flat_map, codes, Option, Some, None}
+use Rattle.std.specs.Prelude.{pos, negsuc, Bool, true, false, if◌then◌else◌, map, flat_map, codes, Option, Some, None}
 use Rattle.std.specs.Fmt.{decimal, signed_decimal}
 use Rattle.std.proofs.lemmas.Bool.{le-ltb}
 use Rattle.std.proofs.lemmas.List.Concat.{flat_map-cons}
@@ -16,13 +16,13 @@ use Rattle.tcl_lang.specs.declared.pred.Line.TheVariants.{Input, Pre, Step, Asse
 use Rattle.tcl_lang.specs.Shape.{has_amount}
 use Rattle.tcl_text.specs.declared.symbol.Symbol.TheVariants.{Plus, Minus, Equal, At}
 use Rattle.tcl_text.specs.declared.token.Token.{Token}
-use Rattle.tcl_text.specs.declared.token.Token.TheVariants.{Name, Number, Kind, Sign}
+use Rattle.tcl_text.specs.declared.token.Token.TheVariants.{Name, Kind, Sign}
 use Rattle.tcl_text.specs.Words.{word_of_op}
 use Rattle.tcl_text.specs.Trees.{alg, prd}
-use Rattle.tcl_text.specs.Canonical.{name_text, type_text, atom_text, term_text, power_text, part_text, modulus_text, predicate_text, amount_text, line_text}
+use Rattle.tcl_text.specs.Canonical.{name_text, type_text, term_text, power_text, part_text, modulus_text, predicate_text, amount_text, line_text}
 use Rattle.tcl_report.specs.Parts.{range_pred_text, signed_part_text, spaced_name, spaced_atom, names_text, atoms_text}
 use Rattle.tcl_report.specs.CanonicalTokens.{tree_tokens, literal_tokens, atom_tokens, power_tokens, part_tokens, signed_part_tokens, modulus_tokens, predicate_tokens, amount_tokens, line_tokens}
-use Rattle.tcl_report.specs.Rendering.{tight, loose, ended, rendered, rendering}
+use Rattle.tcl_report.specs.Rendering.{loose, ended, rendered, rendering}
 use Rattle.tcl_report.proofs.TreeTexts.{From, term_shows, pred_shows, comparison_between}
 
 module _ (names : List (List ℕ)) where

@@ -1,6 +1,6 @@
 -- From a reading of a line: its canonical tokens are leaner than those that were read, and they read as the same line.
 use Rattle.std.proofs.Common.{◌≡◌, ℕ, suc, List, [], ◌∷◌, ◌++◌, refl, sym, ap, subst, ◌∙◌, arith, append_assoc, append-nil}
-use Rattle.std.specs.Prelude.{ℤ, pos, Bool, true, false, if◌then◌else◌, map, flat_map, Some, None}
+use Rattle.std.specs.Prelude.{pos, Bool, true, if◌then◌else◌, map, flat_map, Some}
 use Rattle.std.proofs.lemmas.List.Concat.{flat_map-cons}
 use Rattle.tcl_lang.specs.declared.ty.Ty.{Ty}
 use Rattle.tcl_lang.specs.declared.instr.Atom.{Atom}
@@ -19,7 +19,7 @@ use Rattle.tcl_text.specs.Trees.{alg, prd}
 use Rattle.tcl_text.specs.Grammar.{capped, Chain}
 use Rattle.tcl_text.specs.Statements as grammar
 use Rattle.tcl_text.proofs.Shapes.{Fit, fit_rest}
-use Rattle.tcl_report.specs.CanonicalTokens.{tree_tokens, atom_tokens, part_tokens, signed_part_tokens, modulus_tokens, predicate_tokens, amount_tokens, instruction_tokens, line_tokens}
+use Rattle.tcl_report.specs.CanonicalTokens.{tree_tokens, atom_tokens, part_tokens, signed_part_tokens, predicate_tokens, amount_tokens, instruction_tokens, line_tokens}
 use Rattle.tcl_report.proofs.Leaner.{Leaner, none, plain, kept, both, kept_low, leaner_fit}
 use Rattle.tcl_report.proofs.ReadTrees.{reads_at, operand_found, capped_kept, chain_found}
 

@@ -1,6 +1,6 @@
 -- From a reading of a tree: the canonical tokens of the tree are leaner than those that were read, and they read as it too,
 -- whatever follows. One induction for the three kinds of trees.
-use Rattle.std.proofs.Common.{◌≡◌, ℕ, zero, suc, ◌+◌, ◌-◌, ◌<◌, ◌≤◌, List, [], ◌∷◌, ◌++◌, refl, sym, ap, subst, ◌∙◌, arith, append_assoc, append-nil}
+use Rattle.std.proofs.Common.{◌≡◌, ℕ, zero, suc, ◌+◌, ◌-◌, ◌≤◌, List, [], ◌∷◌, ◌++◌, refl, sym, ap, subst, ◌∙◌, arith, append_assoc}
 use Rattle.std.specs.Prelude.{ℤ, pos, negsuc, neg_ℤ, min, int_lt, ◌<ℤ◌, Bool, true, false, nat_le, if◌then◌else◌, Some}
 use Rattle.std.proofs.lemmas.Int.{ints}
 use Rattle.std.proofs.lemmas.Bool.{leb-true, le-leb, le-ltb}
@@ -29,16 +29,15 @@ use Rattle.tcl_lang.specs.declared.range.RngPred.TheVariants as pred_roll
 use Rattle.tcl_text.specs.declared.operator.TermOp.TheVariants as term_op
 use Rattle.tcl_text.specs.declared.operator.PredOp.TheVariants as pred_op
 use Rattle.tcl_text.specs.declared.symbol.Symbol.{Symbol}
-use Rattle.tcl_text.specs.declared.symbol.Symbol.TheVariants.{StarStar, AndAnd, BarBar, NotEqual, LessEqual, GreaterEqual, Plus, Minus, Star, Ampersand, Bar, Caret, Tilde, Equal, Less, Greater, Bang, Open, Close, OpenSquare, CloseSquare, Comma, At as AtSign}
-use Rattle.tcl_text.specs.declared.token.Keyword.TheVariants as keyword
+use Rattle.tcl_text.specs.declared.symbol.Symbol.TheVariants.{StarStar, AndAnd, BarBar, NotEqual, LessEqual, GreaterEqual, Plus, Minus, Star, Ampersand, Bar, Caret, Tilde, Equal, Less, Greater, Bang, Open, Close, OpenSquare, Comma, At as AtSign}
 use Rattle.tcl_text.specs.declared.token.Token.{Token}
-use Rattle.tcl_text.specs.declared.token.Token.TheVariants.{Name, Number, Kind, Instruction, Reserved, Sign}
+use Rattle.tcl_text.specs.declared.token.Token.TheVariants.{Number, Kind, Instruction, Sign}
 use Rattle.tcl_text.specs.Trees.{Sort, alg, wrd, prd, Tree, Joint, symbol_height, height, joint_of, joined, comparison_of}
 use Rattle.tcl_text.specs.Canonical.{atom_place}
 use Rattle.tcl_text.specs.Grammar as grammar
 use Rattle.tcl_text.specs.Grammar.{capped}
 use Rattle.tcl_text.proofs.Shapes.{is_fit, Fit, fit_first, fit_rest}
-use Rattle.tcl_report.specs.CanonicalTokens.{Written, opening, closing, bracketed, placed, chain_place, joint_symbol, comparison_symbol, joint_place, joint_written, signed_written, plain_written, power_written, leaf_written, compare_written, literal_tokens, atom_tokens, term_written_step, range_written_step, range_written, pred_written_step, tree_written, tree_tokens}
+use Rattle.tcl_report.specs.CanonicalTokens.{Written, opening, closing, bracketed, placed, chain_place, joint_symbol, comparison_symbol, joint_place, joint_written, signed_written, plain_written, power_written, literal_tokens, atom_tokens, term_written_step, range_written_step, range_written, pred_written_step, tree_written}
 use Rattle.tcl_report.proofs.Leaner.{Plain, Leaner, none, plain, kept, both, around, without, kept_low, leaner_fit}
 
 -- a chain with one operator more at its end

@@ -1,14 +1,14 @@
 -- The canonical text of a program that some text reads as reads as the same program.
-use Rattle.std.proofs.Common.{◌≡◌, ◌≤◌, ◌<◌, ◌+◌, ℕ, zero, suc, List, [], ◌∷◌, ◌++◌, length, take, map, Bool, true, false, refl, ap, sym, subst, ◌∙◌, arith, append_assoc, append-nil}
-use Rattle.std.specs.Prelude.{Option, Some, None, is_none, Ok, nat_lt, ◌&&◌, codes}
+use Rattle.std.proofs.Common.{◌≡◌, ◌≤◌, ◌<◌, ◌+◌, ℕ, zero, suc, List, [], ◌∷◌, ◌++◌, length, take, map, true, false, refl, ap, sym, subst, ◌∙◌, arith, append_assoc, append-nil}
+use Rattle.std.specs.Prelude.{Option, Some, None, is_none, Ok, nat_lt, codes}
 use Rattle.std.specs.List.{list_all}
-use Rattle.std.proofs.lemmas.Bool.{eqb-true, and_parts}
+use Rattle.std.proofs.lemmas.Bool.{eqb-true, and_parts, both_ways}
 use Rattle.std.proofs.lemmas.Bool.Decides.{nat_tests}
 use Rattle.std.proofs.lemmas.List.{length-append}
 use Rattle.std.proofs.lemmas.List.Concat.{flat_map-cons}
-use Rattle.std.proofs.Math.Seq.{take-append_seam}
+use Rattle.std.proofs.Math.Seq.{take-append_seam, take-length}
 use Rattle.tcl_lang.specs.declared.pred.Line.{Line}
-use Rattle.tcl_lang.specs.declared.pred.Line.TheVariants.{Input, Pre, Step, Assert, Assume, Cut, Post}
+use Rattle.tcl_lang.specs.declared.pred.Line.TheVariants.{Step}
 use Rattle.tcl_lang.specs.Names.{occurrences}
 use Rattle.tcl_lang.specs.Shape.{stage_of, is_numbered, AreDistinct}
 use Rattle.tcl_lang.specs.Program.{NamedProgram, ReadProgram}
@@ -84,13 +84,8 @@ record Head (ts : List Token) : Type 0 where
   is : ts ≡ first ∷ others
 
 line_head : (l : Line) → Head (line_tokens l)
-line_head (Input T x) = record { first = _; others = _; is = refl }
-line_head (Pre p) = record { first = _; others = _; is = refl }
 line_head (Step i) = record { first = _; others = _; is = refl }
-line_head (Assert p) = record { first = _; others = _; is = refl }
-line_head (Assume p) = record { first = _; others = _; is = refl }
-line_head (Cut p) = record { first = _; others = _; is = refl }
-line_head (Post p) = record { first = _; others = _; is = refl }
+line_head _ = record { first = _; others = _; is = refl }
 
 -- no more operators, where no more than 4,096 are allowed
 few_less : (m n : ℕ) → m + 0 ≤ n → nat_lt 4096 n ≡ false → nat_lt 4096 m ≡ false
@@ -182,33 +177,18 @@ after_end : {s : Progress} {lines : List (List ℕ)} {q : ReadProgram} → readi
 after_end (reading.ended e) h = refl
 after_end (reading.blank e r) h = after_end r h
 after_end {s = s} (reading.placed {l = l} e j f r) h =
-    let late = ap (λ n. may_follow n l) h in absurd (no_follow (may_follow s.stage l) f late)
-  where
-    no_follow : (b : Bool) → b ≡ true → b ≡ false → ⊥
-    no_follow true e d = absurd cc
-    no_follow false e d = absurd cc
+    absurd (both_ways (may_follow s.stage l) (ap (λ n. may_follow n l) h) f)
 
 body_stage : (l : Line) → nat_lt (stage_of l) 4 ≡ true
-body_stage (Input T x) = refl
-body_stage (Pre p) = refl
 body_stage (Step i) = refl
-body_stage (Assert p) = refl
-body_stage (Assume p) = refl
-body_stage (Cut p) = refl
-body_stage (Post p) = refl
+body_stage _ = refl
 
 no_names : {ts : List Token} → grammar.IsStatement ts End → token_names ts ≡ []
 no_names grammar.end_line = refl
 
 -- a list that does not grow is the same
 no_more : (names after : List (List ℕ)) → Grown names after → length names ≡ length after → after ≡ names
-no_more names after g e = by_more g.more g.is
-  where
-    by_more : (more : List (List ℕ)) → after ≡ names ++ more → after ≡ names
-    by_more [] i = i ∙ append-nil names
-    by_more (x ∷ more) i =
-        let long : length after ≡ length names + length (x ∷ more) = ap length i ∙ length-append names (x ∷ more) in
-        absurd (omega (arith, e, long))
+no_more names after g e = sym (take-length after) ∙ (ap (λ n. take n after) (sym e) ∙ first_names names after g)
 
 end_tokens : verdict.Judged (Reserved keyword.End ∷ []) (Ok End)
 unfolding nests_too_deep
@@ -246,11 +226,7 @@ again_end s raws lines q h good follow rest number places =
 -- what is read line by line is read again
 again : {s : Progress} {lines : List (List ℕ)} {q : ReadProgram} → reading.ReadsOn s lines (Ok q) → nat_lt s.stage 4 ≡ true →
     AreDistinct q.program.names → AreNames q.program.names → (number : ℕ) (places : List ℕ) → Again s number places q.program.names q.program
-again {s = s} (reading.ended e) early d h number places = absurd (no_end (nat_lt s.stage 4) early (ap (λ n. nat_lt n 4) e))
-  where
-    no_end : (b : Bool) → b ≡ true → b ≡ false → ⊥
-    no_end true p q = absurd cc
-    no_end false p q = absurd cc
+again {s = s} (reading.ended e) early d h number places = absurd (both_ways (nat_lt s.stage 4) (ap (λ n. nat_lt n 4) e) early)
 again (reading.blank e r) early d h number places =
     let rest = again r early d h number places in
     record { lines = rest.lines; whole = rest.whole; ends = rest.ends; numbers = rest.numbers; reads = rest.reads }

@@ -1,7 +1,7 @@
 -- The raw tokens of a canonical line, numbered under the names so far, are its tokens, and the names grow by those that
 -- occur first in it.
 use Rattle.std.proofs.Common.{◌≡◌, inl, inr, ℕ, suc, ◌+◌, ◌<◌, ◌≤◌, max, List, [], ◌∷◌, ◌++◌, refl, sym, ap, ◌∙◌, arith, rules, length, take, get_or, map}
-use Rattle.std.specs.Prelude.{nat_le, nat_lt, Bool, true, false, not, ◌&&◌, bytes_eq, Some, None}
+use Rattle.std.specs.Prelude.{nat_le, nat_lt, Bool, true, false, not, ◌&&◌, bytes_eq, Some}
 use Rattle.std.specs.List.{list_any, list_all}
 use Rattle.std.proofs.lemmas.Bool.{leb-true, ltb-true, lt-ltb, and_parts, and_from, or_from, cases_lt, false_from_ne_true, not_from_true, not_from_false, cond-true, cond-false}
 use Rattle.std.proofs.lemmas.List.{length-take, get_or-take, take_more}
@@ -11,7 +11,6 @@ use Rattle.std.proofs.lemmas.Slice.Eq.{bytes_eq-Decides}
 use Rattle.std.proofs.lemmas.Option.{slice_get-get_or}
 use Rattle.tcl_lang.specs.Types.{is_ty}
 use Rattle.tcl_lang.specs.Shape.{AreDistinct, is_number, is_numbered}
-use Rattle.tcl_text.specs.declared.token.Raw.{Raw}
 use Rattle.tcl_text.specs.declared.token.Raw.TheVariants as raw
 use Rattle.tcl_text.specs.declared.token.Token.{Token}
 use Rattle.tcl_text.specs.declared.token.Token.TheVariants.{Name, Number, Kind, Instruction, Reserved, Sign}

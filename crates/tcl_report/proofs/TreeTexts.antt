@@ -1,6 +1,6 @@
 -- The canonical text of a tree is the rendering of its tokens, at each place and whatever stands behind them.
-use Rattle.std.proofs.Common.{◌≡◌, ℕ, suc, List, [], ◌∷◌, ◌++◌, refl, sym, ap, subst, ◌∙◌, arith, append_assoc, append-nil}
-use Rattle.std.specs.Prelude.{◌==◌, nat_le, ℤ, pos, negsuc, int_lt, Bool, true, false, if◌then◌else◌, codes}
+use Rattle.std.proofs.Common.{◌≡◌, ℕ, List, [], ◌∷◌, ◌++◌, refl, sym, ap, subst, ◌∙◌, arith, append_assoc, append-nil}
+use Rattle.std.specs.Prelude.{nat_le, ℤ, pos, negsuc, Bool, true, false, if◌then◌else◌, codes}
 use Rattle.std.specs.Fmt.{decimal, signed_decimal}
 use Rattle.std.proofs.lemmas.Bool.{le-leb, le-ltb}
 use Rattle.tcl_lang.specs.declared.ty.Ty.{Ty}
@@ -21,14 +21,13 @@ use Rattle.tcl_lang.specs.declared.range.RngPred.{RngPred, RngPred-F, roll-RngPr
 use Rattle.tcl_lang.specs.declared.range.RngPred.TheOpen as pred_layer
 use Rattle.tcl_lang.specs.declared.range.RngPred.TheFolds.{fold-roll-RngPred}
 use Rattle.tcl_text.specs.declared.symbol.Symbol.{Symbol}
-use Rattle.tcl_text.specs.declared.symbol.Symbol.TheVariants.{StarStar, AndAnd, BarBar, Minus, Tilde, Bang, Open, Close, OpenSquare, CloseSquare, Comma, At}
-use Rattle.tcl_text.specs.declared.token.Keyword.TheVariants as keyword
+use Rattle.tcl_text.specs.declared.symbol.Symbol.TheVariants.{Minus, Tilde, Bang, Open, Close, OpenSquare, Comma, At}
 use Rattle.tcl_text.specs.declared.token.Token.{Token}
-use Rattle.tcl_text.specs.declared.token.Token.TheVariants.{Name, Number, Kind, Instruction, Reserved, Sign}
+use Rattle.tcl_text.specs.declared.token.Token.TheVariants.{Name, Number, Kind, Instruction, Sign}
 use Rattle.tcl_text.specs.Trees.{Sort, alg, wrd, prd}
-use Rattle.tcl_text.specs.Canonical.{bracket, name_text, type_text, atom_place, atom_text, operator_place, right_place, operator_text, comparison_text, term_text_step, term_text, range_term_text_step, range_term_text, range_pred_text_step}
+use Rattle.tcl_text.specs.Canonical.{name_text, type_text, atom_place, atom_text, operator_text, comparison_text, term_text_step, term_text, range_term_text_step, range_term_text, range_pred_text_step}
 use Rattle.tcl_report.specs.Parts.{range_pred_text}
-use Rattle.tcl_report.specs.CanonicalTokens.{Written, opening, closing, bracketed, placed, plain_written, joint_symbol, comparison_symbol, joint_place, literal_tokens, atom_tokens, term_written_step, range_written_step, range_written, pred_written_step, tree_written, tree_tokens}
+use Rattle.tcl_report.specs.CanonicalTokens.{Written, opening, closing, bracketed, placed, plain_written, joint_symbol, comparison_symbol, literal_tokens, atom_tokens, term_written_step, range_written_step, range_written, pred_written_step, tree_written, tree_tokens}
 use Rattle.tcl_report.specs.Rendering.{Before, tight, loose, ended, symbol_text, space_unless, rendered}
 
 -- where an operand begins

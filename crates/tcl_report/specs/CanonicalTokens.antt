@@ -5,7 +5,7 @@ use Rattle.tcl_lang.specs.declared.instr.Atom.{Atom}
 use Rattle.tcl_lang.specs.declared.instr.Atom.TheVariants.{Var, Lit}
 use Rattle.tcl_lang.specs.declared.instr.Instr.{Instr}
 use Rattle.tcl_lang.specs.declared.instr.Op.TheVariants.{Cast}
-use Rattle.tcl_lang.specs.declared.term.Term.{Term, Term-F, fold-Term}
+use Rattle.tcl_lang.specs.declared.term.Term.{Term-F, fold-Term}
 use Rattle.tcl_lang.specs.declared.term.Term.TheOpen as term_layer
 use Rattle.tcl_lang.specs.declared.term.Part.{Part}
 use Rattle.tcl_lang.specs.declared.range.RngOp.TheVariants as range_op
@@ -13,7 +13,7 @@ use Rattle.tcl_lang.specs.declared.range.CmpOp.{CmpOp}
 use Rattle.tcl_lang.specs.declared.range.CmpOp.TheVariants as comparison
 use Rattle.tcl_lang.specs.declared.range.RngTerm.{RngTerm, RngTerm-F, fold-RngTerm}
 use Rattle.tcl_lang.specs.declared.range.RngTerm.TheOpen as range_layer
-use Rattle.tcl_lang.specs.declared.range.RngPred.{RngPred, RngPred-F, fold-RngPred}
+use Rattle.tcl_lang.specs.declared.range.RngPred.{RngPred-F, fold-RngPred}
 use Rattle.tcl_lang.specs.declared.range.RngPred.TheOpen as pred_layer
 use Rattle.tcl_lang.specs.declared.pred.Pred.{Pred}
 use Rattle.tcl_lang.specs.declared.pred.Pred.TheVariants.{Alg, Rng}

@@ -1,4 +1,4 @@
-use Rattle.std.proofs.Common.{◌+◌, refl, arith}
+use Rattle.std.proofs.Common.{refl, arith}
 use Rattle.tcl_text.proofs.TokenShapes.{line_fit}
 use Rattle.tcl_report.specs.Brackets.{is_bracket}
 use Rattle.tcl_report.proofs.Leaner.{leaner_count}
