@@ -3,7 +3,7 @@
 use Rattle.std.proofs.Common.{◌≡◌, ℕ, ◌+◌, ◌≤◌, List, [], ◌∷◌, ◌++◌, refl, sym, ap, subst, ◌∙◌, arith, append_assoc}
 use Rattle.std.specs.Prelude.{ℤ, pos, min, unsigned_abs, int_lt, Bool, true, false, ◌||◌, cond, if◌then◌else◌, count_by, nat_lt}
 use Rattle.std.specs.List.{list_all}
-use Rattle.std.proofs.lemmas.Bool.{and_from, or_parts}
+use Rattle.std.proofs.lemmas.Bool.{and_from, or_parts, cond_both}
 use Rattle.std.proofs.lemmas.Bool.Decides.{nat_tests}
 use Rattle.std.proofs.lemmas.List.Folds.{list_all-append}
 use Rattle.std.proofs.lemmas.List.Sums.{sum_by-cons, sum_by-append}
@@ -63,14 +63,7 @@ module _ (p : Token → Bool) (numbers : (m n : ℤ) → p (Number m) ≡ p (Num
 
 -- numbers and types in range
 pub kept_low : (n : ℤ) → capped n ≤ 4294967295
-kept_low n = by_sign (int_lt n (pos 0)) (unsigned_abs n)
-  where
-    least : (m : ℕ) → min m 4294967295 ≤ 4294967295
-    least m = grind arith
-
-    by_sign : (b : Bool) (m : ℕ) → (if b then 0 else min m 4294967295) ≤ 4294967295
-    by_sign true m = omega arith
-    by_sign false m = least m
+kept_low n = cond_both (int_lt n (pos 0)) 0 (min (unsigned_abs n) 4294967295) (λ k. k ≤ 4294967295) (λ e. omega arith) (λ e. grind arith)
 
 low_number : (k : ℕ) → k ≤ 4294967295 → is_number (pos k) ≡ true
 low_number k low = grind (arith, nat_tests)

@@ -21,9 +21,8 @@ same_kind _ T = false
 
 signs_same : (s t : Bool) → same_sign s t ≡ true → s ≡ t
 signs_same true true e = refl
-signs_same true false e = absurd cc
-signs_same false true e = absurd cc
 signs_same false false e = refl
+signs_same _ _ e = absurd cc
 
 abbrev ty_of : Bool → ℕ → Ty
 ty_of signed width = record { signed = signed; width = width }
@@ -35,12 +34,7 @@ types_same U T e =
 
 same_kind_is : (o : Option Token) (T : Ty) → same_kind o T ≡ true → o ≡ Some (Kind T)
 same_kind_is (Some (Kind U)) T e = ap (λ V. Some (Kind V)) (types_same U T e)
-same_kind_is (Some (Name x)) T e = absurd cc
-same_kind_is (Some (Number n)) T e = absurd cc
-same_kind_is (Some (Instruction o)) T e = absurd cc
-same_kind_is (Some (Reserved k)) T e = absurd cc
-same_kind_is (Some (Sign s)) T e = absurd cc
-same_kind_is None T e = absurd cc
+same_kind_is _ T e = absurd cc
 
 -- each type is meant by its word
 is_kind : Bool → ℕ → Bool

@@ -37,7 +37,7 @@ use Rattle.tcl_text.specs.Canonical.{atom_place}
 use Rattle.tcl_text.specs.Grammar as grammar
 use Rattle.tcl_text.specs.Grammar.{capped}
 use Rattle.tcl_text.proofs.Shapes.{is_fit, Fit, fit_first, fit_rest}
-use Rattle.tcl_report.specs.CanonicalTokens.{Written, opening, closing, bracketed, placed, chain_place, joint_symbol, comparison_symbol, joint_place, joint_written, signed_written, plain_written, power_written, literal_tokens, atom_tokens, term_written_step, range_written_step, range_written, pred_written_step, tree_written}
+use Rattle.tcl_report.specs.CanonicalTokens.{Written, opening, closing, bracketed, placed, chain_place, joint_symbol, comparison_symbol, joint_height, joint_written, signed_written, plain_written, power_written, literal_tokens, atom_tokens, term_written_step, range_written_step, range_written, pred_written_step, tree_written}
 use Rattle.tcl_report.proofs.Leaner.{Plain, Leaner, none, plain, kept, both, around, without, kept_low, leaner_fit}
 
 -- a chain with one operator more at its end
@@ -188,7 +188,7 @@ joint_at prd token o e = absurd cc
 record IsJoint (s : Sort) (o : Joint s) : Type 0 where
   plain : Plain (Sign (joint_symbol s o))
   is : joint_of s (Sign (joint_symbol s o)) ≡ Some o
-  low : joint_place s o ≤ top_place s
+  low : chain_place s (joint_height s o) ≤ top_place s
 
 joint_is : (s : Sort) (o : Joint s) → IsJoint s o
 joint_is alg term_op.Plus = record { plain = λ d. refl; is = refl; low = omega arith }
@@ -207,21 +207,17 @@ joint_tree wrd o t u = ap range_written (sym (range_roll.rolls-Bin o t u)) ∙ f
 joint_tree prd pred_op.And p q = ap (tree_written prd) (sym (pred_roll.rolls-Both p q)) ∙ fold-roll-RngPred Written pred_written_step (pred_layer.Both p q)
 joint_tree prd pred_op.Or p q = ap (tree_written prd) (sym (pred_roll.rolls-Either p q)) ∙ fold-roll-RngPred Written pred_written_step (pred_layer.Either p q)
 
-place_below : (s : Sort) (n : ℕ) → chain_place s (suc n) - 1 ≡ chain_place s n
-place_below alg n = omega arith
-place_below wrd n = omega arith
-place_below prd n = omega arith
-
 -- an operator of height n + 1 between its sides
-joint_found : {s : Sort} {w v : Written} {t u : Tree s} {ts us vs : List Token} (o : Joint s) (n : ℕ) → symbol_height s (joint_symbol s o) ≡ suc n →
+joint_found : {s : Sort} {w v : Written} {t u : Tree s} {ts us vs : List Token} (o : Joint s) (n : ℕ) → joint_height s o ≡ suc n →
     Canonical s (chain_place s (suc n)) w t ts (Sign (joint_symbol s o) ∷ us) → Canonical s (chain_place s n) v u us vs →
     Canonical s (chain_place s (suc n)) (joint_written s o w v) (joined s o t u) ts vs
 joint_found {s = s} {w = w} {v = v} {t = t} {u = u} {ts = ts} {us = us} {vs = vs} o n e c d =
     let x = Sign (joint_symbol s o) in
     let low : chain_place s (suc n) ≤ top_place s = subst (λ h. chain_place s h ≤ top_place s) e (joint_is s o).low in
+    let below : n ≡ suc n - 1 = omega arith in
     let body : ℕ → ℕ → List Token = λ m k. placed s w m ++ (x ∷ placed s v k) in
-    subst (λ h. Canonical s (chain_place s (suc n)) (record { own = chain_place s h; body = body (chain_place s h) (chain_place s h - 1) }) (joined s o t u) ts vs) (sym e)
-    (subst (λ k. Canonical s (chain_place s (suc n)) (record { own = chain_place s (suc n); body = body (chain_place s (suc n)) k }) (joined s o t u) ts vs) (sym (place_below s n))
+    subst (λ h. Canonical s (chain_place s (suc n)) (record { own = chain_place s h; body = body (chain_place s h) (chain_place s (h - 1)) }) (joined s o t u) ts vs) (sym e)
+    (subst (λ k. Canonical s (chain_place s (suc n)) (record { own = chain_place s (suc n); body = body (chain_place s (suc n)) (chain_place s k) }) (joined s o t u) ts vs) below
     (found (chain_place s (suc n)) (omega arith) low
     (both (c.leaner (chain_place s (suc n)) (omega arith)) (plain (joint_is s o).plain (d.leaner (chain_place s n) (omega arith))))
     (λ zs. subst (λ xs. At s (chain_place s (suc n)) xs (joined s o t u) zs) (sym (append_assoc (placed s w (chain_place s (suc n))) (x ∷ placed s v (chain_place s n)) zs))
@@ -387,7 +383,7 @@ mutual
   more_found {s = s} {n = n} {ts = ts} {t = t} (grammar.more {token = token} {o = o} {ts = us} {us = vs} {u = u} g j p m) c f =
       let same = joint_at s token o j in
       let d = chain_found p (fit_rest token us f) in
-      let e : symbol_height s (joint_symbol s o) ≡ suc n = ap (height s) (sym same) ∙ g in
+      let e : joint_height s o ≡ suc n = ap (height s) (sym same) ∙ g in
       more_found m
       (subst (λ w. Canonical s (chain_place s (suc n)) w (joined s o t u) ts vs) (sym (joint_tree s o t u))
       (joint_found o n e (subst (λ x. Found s (chain_place s (suc n)) t ts (x ∷ us)) same c) d))

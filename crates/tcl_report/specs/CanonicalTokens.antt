@@ -82,15 +82,15 @@ comparison_symbol comparison.Le = LessEqual
 comparison_symbol comparison.Gt = Greater
 comparison_symbol comparison.Ge = GreaterEqual
 
--- an operator: its place is its height, its left side stands there, and its right side at the place below
-abbrev pub joint_place : (s : Sort) → Joint s → ℕ
-joint_place s o = chain_place s (symbol_height s (joint_symbol s o))
+-- an operator: its place is that of its height, where its left side stands too; its right side stands one height below
+abbrev pub joint_height : (s : Sort) → Joint s → ℕ
+joint_height s o = symbol_height s (joint_symbol s o)
 
 abbrev pub joint_written : (s : Sort) → Joint s → Written → Written → Written
 joint_written s o t u =
     record {
-      own = joint_place s o;
-      body = placed s t (joint_place s o) ++ (Sign (joint_symbol s o) ∷ placed s u (joint_place s o - 1));
+      own = chain_place s (joint_height s o);
+      body = placed s t (chain_place s (joint_height s o)) ++ (Sign (joint_symbol s o) ∷ placed s u (chain_place s (joint_height s o - 1)));
     }
 
 -- a sign before a tree at a place
