@@ -1,7 +1,7 @@
 -- A list of tokens that begins with given tokens, where some parts may stand in more brackets: it has no fewer tokens of any
 -- kind, and its brackets nest no less deep.
 use Rattle.std.proofs.Common.{◌≡◌, ℕ, ◌+◌, ◌≤◌, List, [], ◌∷◌, ◌++◌, refl, sym, ap, subst, ◌∙◌, arith, append_assoc}
-use Rattle.std.specs.Prelude.{ℤ, pos, min, unsigned_abs, int_lt, Bool, true, false, ◌||◌, cond, if◌then◌else◌, count_by, nat_lt}
+use Rattle.std.specs.Prelude.{ℤ, pos, min, unsigned_abs, int_lt, Bool, true, false, ◌||◌, cond, count_by, nat_lt}
 use Rattle.std.specs.List.{list_all}
 use Rattle.std.proofs.lemmas.Bool.{and_from, or_parts, cond_both}
 use Rattle.std.proofs.lemmas.Bool.Decides.{nat_tests}
@@ -139,11 +139,12 @@ leaner_shallow (both {cs = cs} {ds = ds} l m) d e h f =
 leaner_shallow (around {cs = cs} {us = us} {ts = ts} s l) d e h f =
     let a = first_of d (d + 1) (Sign (opening s)) ts (opens s d) f in
     let b = a.0 in
-    let r = leaner_shallow l (d + 1) (e + 1) (omega (arith, h)) a.1 in
-    ((first_of (d + 1) d (Sign (closing s)) us (closes s d) r.0).1,
-    λ vs g. one_more e (e + 1) (Sign (opening s)) ((cs ++ Sign (closing s) ∷ []) ++ vs) (opens s e) (omega (arith, b, h))
-    (subst (λ xs. Shallow (e + 1) xs) (sym (append_assoc cs (Sign (closing s) ∷ []) vs))
-    (r.1 (Sign (closing s) ∷ vs) (one_more (e + 1) e (Sign (closing s)) vs (closes s e) (omega (arith, b, h)) g))))
+    let r = leaner_shallow l (d + 1) (e + 1) (omega (arith, h)) a.1 in (
+      (first_of (d + 1) d (Sign (closing s)) us (closes s d) r.0).1,
+      λ vs g. one_more e (e + 1) (Sign (opening s)) ((cs ++ Sign (closing s) ∷ []) ++ vs) (opens s e) (omega (arith, b, h))
+          (subst (λ xs. Shallow (e + 1) xs) (sym (append_assoc cs (Sign (closing s) ∷ []) vs))
+          (r.1 (Sign (closing s) ∷ vs) (one_more (e + 1) e (Sign (closing s)) vs (closes s e) (omega (arith, b, h)) g))),
+    )
 leaner_shallow (without {us = us} {ts = ts} s l) d e h f =
     let a = first_of d (d + 1) (Sign (opening s)) ts (opens s d) f in
     let r = leaner_shallow l (d + 1) e (omega (arith, h)) a.1 in

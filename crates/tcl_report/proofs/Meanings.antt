@@ -1,6 +1,6 @@
 -- What the words of a canonical text mean: types, instructions and the words of lines.
 use Rattle.std.proofs.Common.{◌≡◌, ℕ, ◌<◌, refl, sym, ap, ◌∙◌, arith}
-use Rattle.std.specs.Prelude.{◌==◌, nat_le, Bool, true, false, not, ◌||◌, if◌then◌else◌, Option, Some, None}
+use Rattle.std.specs.Prelude.{◌==◌, nat_le, Bool, true, false, not, ◌||◌, if◌then◌else◌, Option, Some}
 use Rattle.std.specs.Fmt.{digits}
 use Rattle.std.proofs.lemmas.Bool.{leb-true, eqb-true, and_parts, agree_below, agree_below_at}
 use Rattle.tcl_lang.specs.declared.ty.Ty.{Ty}
@@ -10,7 +10,7 @@ use Rattle.tcl_lang.specs.Types.{is_ty, same_sign, same_type}
 use Rattle.tcl_text.specs.declared.token.Keyword.TheVariants as keyword
 use Rattle.tcl_text.specs.declared.token.Keyword.{Keyword}
 use Rattle.tcl_text.specs.declared.token.Token.{Token}
-use Rattle.tcl_text.specs.declared.token.Token.TheVariants.{Name, Number, Kind, Instruction, Reserved, Sign}
+use Rattle.tcl_text.specs.declared.token.Token.TheVariants.{Kind, Instruction, Reserved}
 use Rattle.tcl_text.specs.Words.{word_of_op, word_of_keyword, meaning_of}
 use Rattle.tcl_text.specs.Canonical.{type_text}
 

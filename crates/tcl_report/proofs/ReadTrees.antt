@@ -32,7 +32,7 @@ use Rattle.tcl_text.specs.declared.symbol.Symbol.{Symbol}
 use Rattle.tcl_text.specs.declared.symbol.Symbol.TheVariants.{StarStar, AndAnd, BarBar, NotEqual, LessEqual, GreaterEqual, Plus, Minus, Star, Ampersand, Bar, Caret, Tilde, Equal, Less, Greater, Bang, Open, Close, OpenSquare, Comma, At as AtSign}
 use Rattle.tcl_text.specs.declared.token.Token.{Token}
 use Rattle.tcl_text.specs.declared.token.Token.TheVariants.{Number, Kind, Instruction, Sign}
-use Rattle.tcl_text.specs.Trees.{Sort, alg, wrd, prd, Tree, Joint, symbol_height, height, joint_of, joined, comparison_of}
+use Rattle.tcl_text.specs.Trees.{Sort, alg, wrd, prd, Tree, Joint, height, joint_of, joined, comparison_of}
 use Rattle.tcl_text.specs.Canonical.{atom_place}
 use Rattle.tcl_text.specs.Grammar as grammar
 use Rattle.tcl_text.specs.Grammar.{capped}
@@ -333,8 +333,11 @@ cast_found {ts = ts} {us = us} {w = w} {t = t} T e c =
     (range_term.Cast T t) (Instruction Cast ∷ Sign Open ∷ Kind T ∷ Sign Comma ∷ ts) us) e
     (found 0 (omega arith) (omega arith)
     (plain (λ d. refl) (around wrd (plain (λ d. refl) (plain (λ d. refl) (c.leaner 7 (omega arith))))))
-    (λ vs. (tt, grammar.cast (subst (λ xs. grammar.Chain wrd 5 xs t (Sign Close ∷ vs)) (sym (append_assoc (placed wrd w 7) (Sign Close ∷ []) vs))
-    (reads_at c 7 (Sign Close ∷ vs)))))))
+    (λ vs. (
+      tt,
+      grammar.cast (subst (λ xs. grammar.Chain wrd 5 xs t (Sign Close ∷ vs)) (sym (append_assoc (placed wrd w 7) (Sign Close ∷ []) vs))
+          (reads_at c 7 (Sign Close ∷ vs))),
+    ))))
 
 pub capped_kept : (k : ℕ) → k ≤ 4294967295 → capped (pos k) ≡ k
 capped_kept k h = ap (λ b. if b then 0 else min k 4294967295) (le-ltb k 0 (omega arith)) ∙ least k h
