@@ -1,17 +1,18 @@
-// The deepest trees that a line can have, in the main thread and in a spawned one: read, copied and dropped.
+// The deepest trees that a line can have, in the main thread and in a spawned one: read, copied, printed and dropped.
 
 use std::alloc::{AllocError, Global};
 use std::process::Abort;
 use std::thread::join;
 use tcl_list::{Copies, Same};
 use tcl_parse::parse;
+use tcl_report::program_text;
 
-/// Reads a text, copies its program, and drops both.
-fn is_read_and_copied(alloc: Global, text: &[u8]) -> bool {
+/// Reads a canonical text, copies its program, prints it, and drops all.
+fn is_read_copied_and_printed(alloc: Global, text: &[u8]) -> bool {
     match parse(alloc, text) {
-        Ok(parsed) => match parsed.copy_in(alloc) {
-            Ok(copy) => copy.program().same(parsed.program()),
-            Err(_) => false,
+        Ok(parsed) => match (parsed.copy_in(alloc), program_text(alloc, parsed.program())) {
+            (Ok(copy), Ok(written)) => copy.program().same(parsed.program()) && written.as_slice() == text,
+            _ => false,
         },
         Err(_) => false,
     }
@@ -42,8 +43,8 @@ fn lines_of_4096_operators(rt: HostRuntime) -> Result<(), AllocError> {
         let bytes = text.as_str().as_bytes();
         let (spawned, here) = join(
             &rt,
-            || is_read_and_copied(alloc, bytes),
-            || is_read_and_copied(alloc, bytes),
+            || is_read_copied_and_printed(alloc, bytes),
+            || is_read_copied_and_printed(alloc, bytes),
         );
         assert!(&rt; spawned && here, "a line of {part}");
     }
