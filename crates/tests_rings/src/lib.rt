@@ -4,6 +4,8 @@
 #[cfg(test)]
 mod cofactors;
 #[cfg(test)]
+mod expected;
+#[cfg(test)]
 mod naming;
 #[cfg(test)]
 mod polynomials;

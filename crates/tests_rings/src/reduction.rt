@@ -1,6 +1,6 @@
 //! Plain reductions.
 
-ghost use Rattle.std.specs.Prelude.{ℕ, [], ◌∷◌, ◌++◌, IsTrue, IfOk, OnOk};
+ghost use Rattle.std.specs.Prelude.{ℕ, [], ◌∷◌, ◌++◌, None, IsTrue, IfOk, OnOk};
 ghost use Rattle.tcl_ring.specs.Reduction as r;
 ghost use Rattle.tcl_poly.specs.Polynomial.{IsOver};
 ghost use Rattle.tcl_poly.specs.Combination.{Terms};
@@ -8,10 +8,12 @@ ghost use Rattle.tcl_reduce.specs.Answer.{definitions_of};
 ghost use Rattle.tcl_reduce.specs.Definitions.{AreRising};
 ghost use Rattle.tcl_reduce.specs.Remainder.{AreDefinitions};
 
-use crate::naming::name_of;
+use crate::expected::{agree, holds};
+use crate::naming::write_terms;
 use std::alloc::{AllocError, Global};
+use std::process::Abort;
 use std::test::Fail;
-use tcl_poly::{Cofactors, Poly, Unknown, add, degree, mul, number, power, terms, zero};
+use tcl_poly::{Cofactors, Poly, PolyFault, Unknown, add, degree, mul, number, power, terms, zero};
 use tcl_port::{At, What};
 use tcl_reduce::{Definition, Defs, Plain, plain};
 use tcl_ring::{Residue, Ring, Whole};
@@ -20,11 +22,14 @@ use tcl_ring::{Residue, Ring, Whole};
 type Term = (i128, (u32, u32), (u32, u32));
 
 // A place, a variable, and the terms of its definition.
-type Row = (u32, u32, [Term; 2]);
+type Row = (u32, u32, &'static [Term]);
 
 const NONE: Term = (0, (0, 0), (0, 0));
 
-fn polynomial<R: Ring>(alloc: Global, ring: &R, terms: &[Term]) -> Result<Poly<R>, Fail>
+// Definitions, a polynomial, and what is left of it over the integers.
+type Case = (&'static [Row], &'static [Term], &'static str);
+
+fn polynomial<R: Ring>(alloc: Global, ring: &R, terms: &[Term]) -> Result<Poly<R>, PolyFault>
     ensures { IfOk result (λ p. IsOver (R.modulus_of ring.now) (R.amount ring.now) p) }
 {
     let mut sum = zero(alloc);
@@ -35,7 +40,7 @@ fn polynomial<R: Ring>(alloc: Global, ring: &R, terms: &[Term]) -> Result<Poly<R
     Ok(sum)
 }
 
-fn product<R: Ring>(alloc: Global, ring: &R, term: &Term) -> Result<Poly<R>, Fail>
+fn product<R: Ring>(alloc: Global, ring: &R, term: &Term) -> Result<Poly<R>, PolyFault>
     ensures { IfOk result (λ p. IsOver (R.modulus_of ring.now) (R.amount ring.now) p) }
 {
     let constant = number(alloc, ring, term.0)?;
@@ -45,13 +50,14 @@ fn product<R: Ring>(alloc: Global, ring: &R, term: &Term) -> Result<Poly<R>, Fai
     multiply(ring, &constant, &both)
 }
 
-fn multiply<R: Ring>(ring: &R, a: &Poly<R>, b: &Poly<R>) -> Result<Poly<R>, Fail>
+fn multiply<R: Ring>(ring: &R, a: &Poly<R>, b: &Poly<R>) -> Result<Poly<R>, PolyFault>
     requires first { IsOver (R.modulus_of ring.now) (R.amount ring.now) a.now }
     requires second { IsOver (R.modulus_of ring.now) (R.amount ring.now) b.now }
     ensures { IfOk result (λ p. IsOver (R.modulus_of ring.now) (R.amount ring.now) p) }
 {
+    // A product of a test has a degree of at most 1,024.
     if degree(a) > 1024 || degree(b) > 1024 - degree(a) {
-        return Err("a product of a test has a degree of at most 1,024".into());
+        return Err(PolyFault::Wide);
     }
     Ok(mul(ring, a, b)?)
 }
@@ -77,37 +83,20 @@ fn define<R: Ring>(
     place: u32,
     variable: u32,
     poly: Poly<R>,
-) -> Result<(), Fail>
+) -> Result<(), PolyFault>
     requires definitions { AreDefinitions (r.reduced_by (R.modulus_of ring.now)) (definitions_of (R.amount ring.now) defs.old) }
     requires over { IsOver (R.modulus_of ring.now) (R.amount ring.now) poly }
     ensures { OnOk result (AreDefinitions (r.reduced_by (R.modulus_of ring.now)) (definitions_of (R.amount ring.now) defs.new)) }
 {
+    // The places of a test rise.
     if !is_later(defs, place) {
-        return Err("the places of a test rise".into());
+        return Err(PolyFault::Wide);
     }
     defs.push(Definition {
         place,
         variable,
         poly,
     })?;
-    Ok(())
-}
-
-// The terms from the greatest monomial down, each its coefficient and its factors as variable^exponent.
-fn write_terms<R: Ring>(text: &mut String, ring: &R, p: &Poly<R>) -> Result<(), AllocError> {
-    for term in terms(p) {
-        write!(&mut *text, "{}", ring.value(&term.1))?;
-        for k in 0..term.0.len() {
-            let factor = term.0.at(k);
-            write!(
-                &mut *text,
-                " {}^{}",
-                name_of(factor.unknown),
-                factor.exponent
-            )?;
-        }
-        text.push_str(";")?;
-    }
     Ok(())
 }
 
@@ -145,239 +134,248 @@ fn text_of<R: Ring>(alloc: Global, ring: &R, answer: &Plain<R>) -> Result<String
     Ok(text)
 }
 
-fn reduced<R: Ring>(alloc: Global, ring: &R, rows: &[Row], f: &[Term]) -> Result<Plain<R>, Fail> {
+fn reduced<R: Ring>(
+    alloc: Global,
+    ring: &R,
+    rows: &[Row],
+    f: &[Term],
+) -> Result<Plain<R>, PolyFault> {
     let mut defs = Defs::new(alloc);
     for row in rows {
-        let poly = polynomial(alloc, ring, &row.2)?;
+        let poly = polynomial(alloc, ring, row.2)?;
         define(ring, &mut defs, row.0, row.1, poly)?;
     }
     let f = polynomial(alloc, ring, f)?;
     outcome(alloc, ring, &defs, &f)
 }
 
-fn reduce<R: Ring>(alloc: Global, ring: &R, rows: &[Row], f: &[Term]) -> Result<String, Fail> {
+fn reduce<R: Ring>(alloc: Global, ring: &R, rows: &[Row], f: &[Term]) -> Result<String, PolyFault> {
     Ok(text_of(alloc, ring, &reduced(alloc, ring, rows, f)?)?)
 }
 
-fn answer<R: Ring>(alloc: Global, ring: &R, defs: &Defs<R>, f: &Poly<R>) -> Result<String, Fail>
+fn answer<R: Ring>(
+    alloc: Global,
+    ring: &R,
+    defs: &Defs<R>,
+    f: &Poly<R>,
+) -> Result<String, PolyFault>
     requires definitions { AreDefinitions (r.reduced_by (R.modulus_of ring.now)) (definitions_of (R.amount ring.now) defs.now) }
     requires polynomial { IsOver (R.modulus_of ring.now) (R.amount ring.now) f.now }
 {
     Ok(text_of(alloc, ring, &outcome(alloc, ring, defs, f)?)?)
 }
 
-fn outcome<R: Ring>(alloc: Global, ring: &R, defs: &Defs<R>, f: &Poly<R>) -> Result<Plain<R>, Fail>
+fn outcome<R: Ring>(
+    alloc: Global,
+    ring: &R,
+    defs: &Defs<R>,
+    f: &Poly<R>,
+) -> Result<Plain<R>, PolyFault>
     requires definitions { AreDefinitions (r.reduced_by (R.modulus_of ring.now)) (definitions_of (R.amount ring.now) defs.now) }
     requires polynomial { IsOver (R.modulus_of ring.now) (R.amount ring.now) f.now }
 {
+    // The polynomial of a test has a degree of at most 1,024.
     if degree(f) > 1024 {
-        return Err("the polynomial of a test has a degree of at most 1,024".into());
+        return Err(PolyFault::Wide);
     }
     Ok(plain(alloc, ring, defs, f))
 }
 
+// The residues of a modulus from 1 to 2^126.
+fn ring_of(modulus: u128) -> Result<Residue, PolyFault> {
+    if modulus == 0 || modulus > 1 << 126 {
+        return Err(PolyFault::Wide);
+    }
+    Ok(Residue { modulus })
+}
+
+// What is left over the integers is what each case says.
+fn expect_cases(rt: &impl Abort, alloc: Global, cases: &[Case]) -> Result<(), PolyFault> {
+    for (rows, f, wanted) in cases {
+        let made = reduce(alloc, &Whole, rows, f)?;
+        agree(rt, made.as_str(), wanted);
+    }
+    Ok(())
+}
+
 // Montgomery reduction modulo 3329, a butterfly, and a cast: the polynomials of their goals, with the unknowns of lines
 // as variables above 100. The values come from the reference in Python.
-#[test]
-fn goals_of_programs(rt: HostRuntime) -> Result<(), Fail> {
-    let alloc = rt.alloc();
-    let low = reduce(
-        alloc,
-        &Residue { modulus: 65536 },
+const GOALS: &[(u128, &[Row], &[Term], &str)] = &[
+    (
+        65536,
         &[
-            (2, 1, [(1, (0, 1), (0, 0)), NONE]),
-            (3, 3, [(62209, (1, 1), (0, 0)), NONE]),
-            (4, 4, [(1, (3, 1), (0, 0)), NONE]),
-            (5, 5, [(3329, (4, 1), (0, 0)), NONE]),
-            (6, 6, [(1, (0, 1), (0, 0)), (65535, (5, 1), (0, 0))]),
-            (7, 8, [(1, (6, 1), (0, 0)), NONE]),
+            (2, 1, &[(1, (0, 1), (0, 0)), NONE]),
+            (3, 3, &[(62209, (1, 1), (0, 0)), NONE]),
+            (4, 4, &[(1, (3, 1), (0, 0)), NONE]),
+            (5, 5, &[(3329, (4, 1), (0, 0)), NONE]),
+            (6, 6, &[(1, (0, 1), (0, 0)), (65535, (5, 1), (0, 0))]),
+            (7, 8, &[(1, (6, 1), (0, 0)), NONE]),
         ],
         &[(1, (8, 1), (0, 0))],
-    )?;
-    assert_eq!(rt;
-        low.as_str(),
-        "zero 0: 65535; 1: 62207; 2: 62207; 3: 65535; 4: 1; 5: 1;"
-    );
-    let high = reduce(
-        alloc,
-        &Residue { modulus: 3329 },
+        "zero 0: 65535; 1: 62207; 2: 62207; 3: 65535; 4: 1; 5: 1;",
+    ),
+    (
+        3329,
         &[
-            (2, 1, [(1, (0, 1), (0, 0)), (1044, (102, 1), (0, 0))]),
-            (3, 3, [(2, (1, 1), (0, 0)), (1044, (2, 1), (0, 0))]),
-            (4, 4, [(1, (3, 1), (0, 0)), (1044, (104, 1), (0, 0))]),
-            (5, 5, [NONE, NONE]),
-            (6, 6, [(1, (0, 1), (0, 0)), (3328, (5, 1), (0, 0))]),
-            (7, 8, [(1, (6, 1), (0, 0)), (1044, (7, 1), (0, 0))]),
-            (10, 9, [(1, (7, 1), (0, 0)), NONE]),
+            (2, 1, &[(1, (0, 1), (0, 0)), (1044, (102, 1), (0, 0))]),
+            (3, 3, &[(2, (1, 1), (0, 0)), (1044, (2, 1), (0, 0))]),
+            (4, 4, &[(1, (3, 1), (0, 0)), (1044, (104, 1), (0, 0))]),
+            (5, 5, &[NONE, NONE]),
+            (6, 6, &[(1, (0, 1), (0, 0)), (3328, (5, 1), (0, 0))]),
+            (7, 8, &[(1, (6, 1), (0, 0)), (1044, (7, 1), (0, 0))]),
+            (10, 9, &[(1, (7, 1), (0, 0)), NONE]),
         ],
         &[(3328, (0, 1), (0, 0)), (2285, (9, 1), (0, 0))],
-    )?;
-    assert_eq!(rt; high.as_str(), "rest 3328 0^1;2285 7^1; 6: 2285;");
-    let butterfly = reduce(
-        alloc,
-        &Residue { modulus: 3329 },
+        "rest 3328 0^1;2285 7^1; 6: 2285;",
+    ),
+    (
+        3329,
         &[
-            (6, 3, [(1, (1, 1), (2, 1)), NONE]),
-            (15, 12, [(1, (10, 1), (0, 0)), NONE]),
-            (16, 13, [(1, (0, 1), (0, 0)), (1, (12, 1), (0, 0))]),
+            (6, 3, &[(1, (1, 1), (2, 1)), NONE]),
+            (15, 12, &[(1, (10, 1), (0, 0)), NONE]),
+            (16, 13, &[(1, (0, 1), (0, 0)), (1, (12, 1), (0, 0))]),
         ],
         &[
             (3328, (1, 1), (2, 1)),
             (1044, (0, 1), (0, 0)),
             (2285, (13, 1), (0, 0)),
         ],
-    )?;
-    assert_eq!(rt;
-        butterfly.as_str(),
-        "rest 3328 1^1 2^1;2285 10^1; 1: 2285; 2: 2285;"
-    );
-    let cast = reduce(
-        alloc,
-        &Residue {
-            modulus: 4294967296,
-        },
-        &[(1, 1, [(1, (0, 1), (0, 0)), NONE])],
+        "rest 3328 1^1 2^1;2285 10^1; 1: 2285; 2: 2285;",
+    ),
+    (
+        4294967296,
+        &[(1, 1, &[(1, (0, 1), (0, 0)), NONE])],
         &[(1, (0, 1), (0, 0)), (4294967295, (1, 1), (0, 0))],
-    )?;
-    assert_eq!(rt; cast.as_str(), "zero 0: 4294967295;");
+        "zero 0: 4294967295;",
+    ),
+];
+
+#[test]
+fn goals_of_programs(rt: HostRuntime) -> Result<(), Fail> {
+    for (modulus, rows, f, wanted) in GOALS {
+        let ring = ring_of(*modulus)?;
+        let made = reduce(rt.alloc(), &ring, rows, f)?;
+        agree(&rt, made.as_str(), wanted);
+    }
     Ok(())
 }
 
-// The values come from the reference in Python; that of the cube is also (x + 1)^3 + 5.
-#[test]
-fn substitutions(rt: HostRuntime) -> Result<(), Fail> {
-    let alloc = rt.alloc();
-    let next: Row = (4, 1, [(1, (0, 1), (0, 0)), (1, (0, 0), (0, 0))]);
-    let cube = reduce(
-        alloc,
-        &Whole,
-        &[next],
+const NEXT: Row = (4, 1, &[(1, (0, 1), (0, 0)), (1, (0, 0), (0, 0))]);
+
+// The values come from the reference in Python; that of the cube, the first, is also (x + 1)^3 + 5.
+const SUBSTITUTIONS: &[Case] = &[
+    (
+        &[NEXT],
         &[(1, (1, 3), (0, 0)), (5, (0, 0), (0, 0))],
-    )?;
-    assert_eq!(rt;
-        cube.as_str(),
-        "rest 1 0^3;3 0^2;3 0^1;6; 0: 1 0^2;1 0^1 1^1;1 1^2;2 0^1;1 1^1;1;"
-    );
-    let mixed = reduce(
-        alloc,
-        &Whole,
-        &[(4, 1, [(2, (0, 1), (0, 0)), (-3, (0, 0), (0, 0))])],
+        "rest 1 0^3;3 0^2;3 0^1;6; 0: 1 0^2;1 0^1 1^1;1 1^2;2 0^1;1 1^1;1;",
+    ),
+    (
+        &[(4, 1, &[(2, (0, 1), (0, 0)), (-3, (0, 0), (0, 0))])],
         &[
             (1, (1, 2), (0, 0)),
             (7, (1, 1), (0, 1)),
             (-1, (0, 2), (0, 0)),
         ],
-    )?;
-    assert_eq!(rt; mixed.as_str(), "rest 17 0^2;-33 0^1;9; 0: 9 0^1;1 1^1;-3;");
-    let chain = reduce(
-        alloc,
-        &Whole,
+        "rest 17 0^2;-33 0^1;9; 0: 9 0^1;1 1^1;-3;",
+    ),
+    (
         &[
-            (1, 1, [(1, (0, 1), (0, 0)), NONE]),
-            (2, 2, [(1, (1, 1), (0, 0)), (1, (0, 0), (0, 0))]),
+            (1, 1, &[(1, (0, 1), (0, 0)), NONE]),
+            (2, 2, &[(1, (1, 1), (0, 0)), (1, (0, 0), (0, 0))]),
         ],
         &[(1, (2, 1), (0, 0))],
-    )?;
-    assert_eq!(rt; chain.as_str(), "rest 1 0^1;1; 0: 1; 1: 1;");
-    let nothing = reduce(
-        alloc,
-        &Whole,
-        &[(4, 1, [NONE, NONE])],
+        "rest 1 0^1;1; 0: 1; 1: 1;",
+    ),
+    (
+        &[(4, 1, &[NONE, NONE])],
         &[
             (1, (1, 1), (0, 0)),
             (1, (1, 2), (0, 1)),
             (1, (0, 1), (0, 0)),
         ],
-    )?;
-    assert_eq!(rt; nothing.as_str(), "rest 1 0^1; 0: 1 0^1 1^1;1;");
-    let absent = reduce(alloc, &Whole, &[next], &[(1, (2, 1), (0, 0))])?;
-    assert_eq!(rt; absent.as_str(), "rest 1 2^1;");
-    let null = reduce(
-        alloc,
-        &Residue { modulus: 1 },
-        &[next],
-        &[(1, (1, 1), (0, 0))],
-    )?;
-    assert_eq!(rt; null.as_str(), "zero");
+        "rest 1 0^1; 0: 1 0^1 1^1;1;",
+    ),
+    (&[NEXT], &[(1, (2, 1), (0, 0))], "rest 1 2^1;"),
+];
+
+#[test]
+fn substitutions(rt: HostRuntime) -> Result<(), Fail> {
+    let alloc = rt.alloc();
+    expect_cases(&rt, alloc, SUBSTITUTIONS)?;
+    let null = Residue { modulus: 1 };
+    let made = reduce(alloc, &null, &[NEXT], &[(1, (1, 1), (0, 0))])?;
+    agree(&rt, made.as_str(), "zero");
     Ok(())
 }
+
+const SAME: Row = (9, 1, &[(1, (0, 1), (0, 0)), NONE]);
+
+const TWICE: &[Row] = &[
+    (3, 1, &[(1, (0, 1), (0, 0)), NONE]),
+    (5, 2, &[(1, (1, 1), (0, 0)), NONE]),
+];
 
 // Each sum of the norm and the bounds is 2^127 at the wide ones, and less by 1 to 3 at the others.
+const WIDTHS: &[Case] = &[
+    (
+        &[SAME],
+        &[(1 << 125, (1, 1), (0, 0)), (1 << 125, (0, 0), (0, 0))],
+        "wide 9",
+    ),
+    (
+        &[SAME],
+        &[(1 << 125, (1, 1), (0, 0)), ((1 << 125) - 1, (0, 0), (0, 0))],
+        "rest 42535295865117307932921825928971026432 0^1;42535295865117307932921825928971026431; 0: 42535295865117307932921825928971026432;",
+    ),
+    (
+        TWICE,
+        &[(1 << 124, (2, 1), (0, 0)), (1 << 124, (1, 1), (0, 0))],
+        "wide 3",
+    ),
+    (
+        TWICE,
+        &[(1 << 124, (2, 1), (0, 0)), ((1 << 124) - 1, (1, 1), (0, 0))],
+        "rest 42535295865117307932921825928971026431 0^1; 0: 42535295865117307932921825928971026431; 1: 21267647932558653966460912964485513216;",
+    ),
+    (
+        &[(6, 1, &[(1 << 63, (0, 1), (0, 0)), NONE])],
+        &[(1, (1, 2), (0, 0))],
+        "wide 6",
+    ),
+    (
+        &[(6, 1, &[(1 << 126, (0, 1024), (0, 0)), NONE])],
+        &[(2, (1, 1), (0, 1))],
+        "wide 6",
+    ),
+];
+
 #[test]
 fn widths(rt: HostRuntime) -> Result<(), Fail> {
-    let alloc = rt.alloc();
-    let same: Row = (9, 1, [(1, (0, 1), (0, 0)), NONE]);
-    let wide = reduce(
-        alloc,
-        &Whole,
-        &[same],
-        &[(1 << 125, (1, 1), (0, 0)), (1 << 125, (0, 0), (0, 0))],
-    )?;
-    assert_eq!(rt; wide.as_str(), "wide 9");
-    let narrow = reduce(
-        alloc,
-        &Whole,
-        &[same],
-        &[(1 << 125, (1, 1), (0, 0)), ((1 << 125) - 1, (0, 0), (0, 0))],
-    )?;
-    assert_eq!(rt;
-        narrow.as_str(),
-        "rest 42535295865117307932921825928971026432 0^1;42535295865117307932921825928971026431; 0: 42535295865117307932921825928971026432;"
-    );
-    let twice: [Row; 2] = [
-        (3, 1, [(1, (0, 1), (0, 0)), NONE]),
-        (5, 2, [(1, (1, 1), (0, 0)), NONE]),
-    ];
-    let summed = reduce(
-        alloc,
-        &Whole,
-        &twice,
-        &[(1 << 124, (2, 1), (0, 0)), (1 << 124, (1, 1), (0, 0))],
-    )?;
-    assert_eq!(rt; summed.as_str(), "wide 3");
-    let below = reduce(
-        alloc,
-        &Whole,
-        &twice,
-        &[(1 << 124, (2, 1), (0, 0)), ((1 << 124) - 1, (1, 1), (0, 0))],
-    )?;
-    assert_eq!(rt;
-        below.as_str(),
-        "rest 42535295865117307932921825928971026431 0^1; 0: 42535295865117307932921825928971026431; 1: 21267647932558653966460912964485513216;"
-    );
-    let square = reduce(
-        alloc,
-        &Whole,
-        &[(6, 1, [(1 << 63, (0, 1), (0, 0)), NONE])],
-        &[(1, (1, 2), (0, 0))],
-    )?;
-    assert_eq!(rt; square.as_str(), "wide 6");
-    let first = reduce(
-        alloc,
-        &Whole,
-        &[(6, 1, [(1 << 126, (0, 1024), (0, 0)), NONE])],
-        &[(2, (1, 1), (0, 1))],
-    )?;
-    assert_eq!(rt; first.as_str(), "wide 6");
+    expect_cases(&rt, rt.alloc(), WIDTHS)?;
     Ok(())
 }
 
-#[test]
-fn degrees(rt: HostRuntime) -> Result<(), Fail> {
-    let alloc = rt.alloc();
-    let high: Row = (6, 1, [(1, (0, 1024), (0, 0)), NONE]);
-    let large = reduce(alloc, &Whole, &[high], &[(1, (1, 1), (2, 1))])?;
-    assert_eq!(rt; large.as_str(), "large degree 1025");
-    let greatest = reduce(alloc, &Whole, &[high], &[(1, (1, 1), (0, 0))])?;
-    assert_eq!(rt; greatest.as_str(), "rest 1 0^1024; 0: 1;");
+const HIGH: Row = (6, 1, &[(1, (0, 1024), (0, 0)), NONE]);
+
+const DEGREES: &[Case] = &[
+    (&[HIGH], &[(1, (1, 1), (2, 1))], "large degree 1025"),
+    (&[HIGH], &[(1, (1, 1), (0, 0))], "rest 1 0^1024; 0: 1;"),
+];
+
+// The square of a variable that stands for the greatest power of another.
+fn square_of_the_greatest(alloc: Global) -> Result<String, PolyFault> {
     let mut defs = Defs::new(alloc);
     let all = power(alloc, &Whole, Unknown::Var(0), u32::MAX)?;
     define(&Whole, &mut defs, 6, 1, all)?;
     let square = power(alloc, &Whole, Unknown::Var(1), 2)?;
-    assert_eq!(rt;
-        answer(alloc, &Whole, &defs, &square)?.as_str(),
-        "large degree 4294967295"
-    );
+    answer(alloc, &Whole, &defs, &square)
+}
+
+#[test]
+fn degrees(rt: HostRuntime) -> Result<(), Fail> {
+    expect_cases(&rt, rt.alloc(), DEGREES)?;
+    let made = square_of_the_greatest(rt.alloc())?;
+    agree(&rt, made.as_str(), "large degree 4294967295");
     Ok(())
 }
 
@@ -386,7 +384,7 @@ fn sum_of_variables<R: Ring>(
     ring: &R,
     from: u32,
     count: u32,
-) -> Result<Poly<R>, Fail>
+) -> Result<Poly<R>, PolyFault>
     ensures { IfOk result (λ p. IsOver (R.modulus_of ring.now) (R.amount ring.now) p) }
 {
     let mut sum = zero(alloc);
@@ -405,39 +403,38 @@ fn spent<R: Ring>(answer: &Plain<R>) -> u128 {
     }
 }
 
+const BEFORE: Row = (4, 1, &[(1, (0, 1), (0, 0)), NONE]);
+
+const THEN: Row = (5, 2, &[(1, (1, 1), (0, 0)), (1, (0, 0), (0, 0))]);
+
 // The norm of the polynomial, and for each definition that is used k * norm(f_k) * norm(d)^(k-1) * (1 + norm(d)) over the
-// powers k: 6 + 3 * 2^2 * 3; 1 + 3 + 2; the norm alone where none is used; and modulo 2^126 not above 2^127.
+// powers k: 6 + 3 * 2^2 * 3; 1 + 3 + 2; the norm alone where none is used.
+const SPENT: &[(&[Row], &[Term], u128)] = &[
+    (&[NEXT], &[(1, (1, 3), (0, 0)), (5, (0, 0), (0, 0))], 42),
+    (&[BEFORE, THEN], &[(1, (2, 1), (0, 0))], 6),
+    (&[NEXT], &[(-9, (2, 1), (0, 0))], 9),
+    (&[BEFORE], &[(1, (1, 1), (0, 0)), (-1, (0, 1), (0, 0))], 4),
+];
+
+fn spent_in<R: Ring>(alloc: Global, ring: &R, rows: &[Row], f: &[Term]) -> Result<u128, PolyFault> {
+    Ok(spent(&reduced(alloc, ring, rows, f)?))
+}
+
 #[test]
 fn bounds_that_were_spent(rt: HostRuntime) -> Result<(), Fail> {
-    let alloc = rt.alloc();
-    let next: Row = (4, 1, [(1, (0, 1), (0, 0)), (1, (0, 0), (0, 0))]);
-    let then: Row = (5, 2, [(1, (1, 1), (0, 0)), (1, (0, 0), (0, 0))]);
-    let same: Row = (4, 1, [(1, (0, 1), (0, 0)), NONE]);
-    let cube = reduced(
-        alloc,
-        &Whole,
-        &[next],
-        &[(1, (1, 3), (0, 0)), (5, (0, 0), (0, 0))],
-    )?;
-    assert_eq!(rt; spent(&cube), 42);
-    let chain = reduced(alloc, &Whole, &[same, then], &[(1, (2, 1), (0, 0))])?;
-    assert_eq!(rt; spent(&chain), 6);
-    let absent = reduced(alloc, &Whole, &[next], &[(-9, (2, 1), (0, 0))])?;
-    assert_eq!(rt; spent(&absent), 9);
-    let zero = reduced(
-        alloc,
-        &Whole,
-        &[same],
-        &[(1, (1, 1), (0, 0)), (-1, (0, 1), (0, 0))],
-    )?;
-    assert_eq!(rt; spent(&zero), 4);
-    let large = reduced(
-        alloc,
-        &Residue { modulus: 1 << 126 },
-        &[same],
-        &[(1 << 125, (1, 4), (0, 0))],
-    )?;
-    assert_eq!(rt; spent(&large), 1 << 127);
+    for (rows, f, wanted) in SPENT {
+        let spent = spent_in(rt.alloc(), &Whole, rows, f)?;
+        holds(&rt, "a bound that was spent", spent == *wanted);
+    }
+    Ok(())
+}
+
+// Modulo 2^126 what was spent is not above 2^127.
+#[test]
+fn bounds_of_residues(rt: HostRuntime) -> Result<(), Fail> {
+    let ring = Residue { modulus: 1 << 126 };
+    let spent = spent_in(rt.alloc(), &ring, &[BEFORE], &[(1 << 125, (1, 4), (0, 0))])?;
+    holds(&rt, "the greatest bound", spent == 1 << 127);
     Ok(())
 }
 
@@ -448,26 +445,49 @@ fn terms_left(answer: &Plain<Whole>) -> usize {
     }
 }
 
+// The outcome where variable 1 is the sum of 256 variables.
+fn with_a_long_sum(alloc: Global, f: &Poly<Whole>) -> Result<Plain<Whole>, PolyFault>
+    requires { IsOver None (λ n. n) f.now }
+{
+    let sum = sum_of_variables(alloc, &Whole, 10, 256)?;
+    let mut defs = Defs::new(alloc);
+    define(&Whole, &mut defs, 6, 1, sum)?;
+    outcome(alloc, &Whole, &defs, f)
+}
+
+// The sum of the 256 variables times variable 1.
+fn long_product(alloc: Global) -> Result<Poly<Whole>, PolyFault>
+    ensures { IfOk result (λ p. IsOver None (λ n. n) p) }
+{
+    let sum = sum_of_variables(alloc, &Whole, 10, 256)?;
+    let x = power(alloc, &Whole, Unknown::Var(1), 1)?;
+    multiply(&Whole, &sum, &x)
+}
+
+fn text_of_product_and_more(alloc: Global) -> Result<String, PolyFault> {
+    let y = power(alloc, &Whole, Unknown::Var(2), 1)?;
+    let more = add(&Whole, &long_product(alloc)?, &y)?;
+    Ok(text_of(alloc, &Whole, &with_a_long_sum(alloc, &more)?)?)
+}
+
+fn text_of_fourth_power(alloc: Global) -> Result<String, PolyFault> {
+    let fourth = power(alloc, &Whole, Unknown::Var(1), 4)?;
+    Ok(text_of(alloc, &Whole, &with_a_long_sum(alloc, &fourth)?)?)
+}
+
+fn terms_of_product(alloc: Global) -> Result<usize, PolyFault> {
+    let product = long_product(alloc)?;
+    Ok(terms_left(&with_a_long_sum(alloc, &product)?))
+}
+
 // 256 terms times 256 terms and one more, of which fewer are left when like terms are merged; and 256^4.
 #[test]
 fn numbers_of_terms(rt: HostRuntime) -> Result<(), Fail> {
-    let alloc = rt.alloc();
-    let sum = sum_of_variables(alloc, &Whole, 10, 256)?;
-    let x = power(alloc, &Whole, Unknown::Var(1), 1)?;
-    let y = power(alloc, &Whole, Unknown::Var(2), 1)?;
-    let rows = multiply(&Whole, &sum, &x)?;
-    let more = add(&Whole, &rows, &y)?;
-    let fourth = power(alloc, &Whole, Unknown::Var(1), 4)?;
-    let mut defs = Defs::new(alloc);
-    define(&Whole, &mut defs, 6, 1, sum)?;
-    assert_eq!(rt;
-        answer(alloc, &Whole, &defs, &more)?.as_str(),
-        "large terms 65537"
-    );
-    assert_eq!(rt;
-        answer(alloc, &Whole, &defs, &fourth)?.as_str(),
-        "large terms 4294967295"
-    );
-    assert_eq!(rt; terms_left(&outcome(alloc, &Whole, &defs, &rows)?), 32_896);
+    let more = text_of_product_and_more(rt.alloc())?;
+    agree(&rt, more.as_str(), "large terms 65537");
+    let fourth = text_of_fourth_power(rt.alloc())?;
+    agree(&rt, fourth.as_str(), "large terms 4294967295");
+    let left = terms_of_product(rt.alloc())?;
+    holds(&rt, "fewer terms are left", left == 32_896);
     Ok(())
 }

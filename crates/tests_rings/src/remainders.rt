@@ -3,12 +3,13 @@
 ghost use Rattle.std.specs.Prelude.{None, IfOk};
 ghost use Rattle.tcl_poly.specs.Polynomial.{IsOver};
 
-use crate::naming::name_of;
+use crate::expected::{agree, holds};
+use crate::naming::write_terms;
 use std::alloc::{AllocError, Global};
 use std::test::Fail;
-use tcl_goals::{Name, Remainder};
+use tcl_goals::{Name, Power, Remainder};
 use tcl_list::Listing;
-use tcl_poly::{Cofactor, Cofactors, Poly, PolyFault, Unknown, add, power, scale, terms, unknown};
+use tcl_poly::{Cofactor, Cofactors, Poly, PolyFault, Unknown, add, power, scale, unknown};
 use tcl_remainder::{are_plain, degree, is_plain, polynomial_of, remainder_of};
 use tcl_ring::{Residue, Ring, Whole};
 
@@ -25,12 +26,19 @@ fn sample(alloc: Global) -> Result<Poly<Whole>, PolyFault>
     )
 }
 
-fn plain_sample(alloc: Global) -> Result<Remainder, Fail> {
+fn plain_sample(alloc: Global) -> Result<Remainder, PolyFault> {
     let f = sample(alloc)?;
     if !is_plain(&Whole, &f) {
-        return Err("plain data has the sample".into());
+        return Err(PolyFault::Wide);
     }
     Ok(remainder_of(alloc, &Whole, &f)?)
+}
+
+fn write_power(text: &mut String, power: &Power) -> Result<(), AllocError> {
+    match power.name {
+        Name::Var(v) => write!(text, " v{}^{}", v, power.exponent),
+        Name::Quot(place) => write!(text, " q{}^{}", place, power.exponent),
+    }
 }
 
 // A line for each summand: its coefficient, and its powers as name^exponent.
@@ -39,101 +47,103 @@ fn plain_text(alloc: Global, remainder: &Remainder) -> Result<String, AllocError
     for summand in remainder.summands().as_slice() {
         write!(&mut text, "{}", summand.coefficient)?;
         for power in summand.powers.as_slice() {
-            match power.name {
-                Name::Var(v) => write!(&mut text, " v{}^{}", v, power.exponent)?,
-                Name::Quot(place) => write!(&mut text, " q{}^{}", place, power.exponent)?,
-            }
+            write_power(&mut text, power)?;
         }
         text.push_str(";")?;
     }
     Ok(text)
 }
 
-// The same of the sample in a ring.
-fn sample_in<R: Ring>(alloc: Global, ring: &R) -> Result<String, Fail> {
+// The degree of the same in a ring, and the polynomial.
+fn sample_in<R: Ring>(alloc: Global, ring: &R) -> Result<String, PolyFault> {
     let remainder = plain_sample(alloc)?;
     let degree = degree(ring, &remainder);
     if degree > 1024 {
-        return Err("the sample has the degree 3".into());
+        return Err(PolyFault::Wide);
     }
     let f = polynomial_of(alloc, ring, &remainder)?;
+    Ok(text_of(alloc, ring, degree, &f)?)
+}
+
+fn text_of<R: Ring>(
+    alloc: Global,
+    ring: &R,
+    degree: u32,
+    f: &Poly<R>,
+) -> Result<String, AllocError> {
     let mut text = String::new(alloc);
     write!(&mut text, "{}:", degree)?;
-    for term in terms(&f) {
-        write!(&mut text, "{}", ring.value(&term.1))?;
-        for k in 0..term.0.len() {
-            let factor = term.0.at(k);
-            write!(
-                &mut text,
-                " {}^{}",
-                name_of(factor.unknown),
-                factor.exponent
-            )?;
-        }
-        text.push_str(";")?;
-    }
+    write_terms(&mut text, ring, f)?;
     Ok(text)
 }
 
 #[test]
 fn plain_data_names_lines_by_their_places(rt: HostRuntime) -> Result<(), Fail> {
     let remainder = plain_sample(rt.alloc())?;
-    assert_eq!(rt;
-        plain_text(rt.alloc(), &remainder)?.as_str(),
-        "9 v4^3;7 q2^1;"
-    );
+    let text = plain_text(rt.alloc(), &remainder)?;
+    agree(&rt, text.as_str(), "9 v4^3;7 q2^1;");
     Ok(())
 }
 
 // 9 is 2 modulo 7 and 0 modulo 3, and 7 is 0 modulo 7; the degree is that of what stays.
 #[test]
 fn what_vanishes_is_left_out(rt: HostRuntime) -> Result<(), Fail> {
-    assert_eq!(rt;
-        sample_in(rt.alloc(), &Whole)?.as_str(),
-        "3:9 4^3;7 4294967298^1;"
+    let alloc = rt.alloc();
+    agree(
+        &rt,
+        sample_in(alloc, &Whole)?.as_str(),
+        "3:9 4^3;7 4294967298^1;",
     );
-    assert_eq!(rt;
-        sample_in(rt.alloc(), &Residue { modulus: 7 })?.as_str(),
-        "3:2 4^3;"
-    );
-    assert_eq!(rt;
-        sample_in(rt.alloc(), &Residue { modulus: 3 })?.as_str(),
-        "1:1 4294967298^1;"
-    );
-    assert_eq!(rt;
-        sample_in(rt.alloc(), &Residue { modulus: 1 })?.as_str(),
-        "0:"
-    );
+    let seven = sample_in(alloc, &Residue { modulus: 7 })?;
+    agree(&rt, seven.as_str(), "3:2 4^3;");
+    let three = sample_in(alloc, &Residue { modulus: 3 })?;
+    agree(&rt, three.as_str(), "1:1 4294967298^1;");
+    let one = sample_in(alloc, &Residue { modulus: 1 })?;
+    agree(&rt, one.as_str(), "0:");
     Ok(())
+}
+
+// Whether the quotient of a line is plain data.
+fn is_plain_at(alloc: Global, place: u32) -> Result<bool, PolyFault> {
+    let quotient = unknown(alloc, &Whole, Unknown::Quot(place))?;
+    Ok(is_plain(&Whole, &quotient))
 }
 
 #[test]
 fn the_last_place_has_no_name(rt: HostRuntime) -> Result<(), Fail> {
-    let last = unknown(rt.alloc(), &Whole, Unknown::Quot(u32::MAX))?;
-    let before = unknown(rt.alloc(), &Whole, Unknown::Quot(u32::MAX - 1))?;
-    assert!(rt; !is_plain(&Whole, &last));
-    assert!(rt; is_plain(&Whole, &before));
+    let last = is_plain_at(rt.alloc(), u32::MAX)?;
+    holds(&rt, "the last place", !last);
+    let before = is_plain_at(rt.alloc(), u32::MAX - 1)?;
+    holds(&rt, "the place before", before);
     Ok(())
 }
 
-// Two cofactors of equations of these numbers.
-fn pair(alloc: Global, first: u32, second: u32) -> Result<Cofactors<Whole>, Fail> {
+// Whether two cofactors of equations of these numbers are plain data.
+fn are_plain_at(alloc: Global, first: u32, second: u32) -> Result<bool, PolyFault> {
     let mut cofactors = Listing::new(alloc);
-    cofactors.push(Cofactor {
-        equation: first,
-        poly: sample(alloc)?,
-    })?;
-    cofactors.push(Cofactor {
-        equation: second,
-        poly: sample(alloc)?,
-    })?;
-    Ok(cofactors)
+    push_sample(alloc, &mut cofactors, first)?;
+    push_sample(alloc, &mut cofactors, second)?;
+    Ok(are_plain(&Whole, &cofactors))
+}
+
+fn push_sample(
+    alloc: Global,
+    cofactors: &mut Cofactors<Whole>,
+    equation: u32,
+) -> Result<(), PolyFault> {
+    let poly = sample(alloc)?;
+    cofactors.push(Cofactor { equation, poly })?;
+    Ok(())
 }
 
 #[test]
 fn numbers_of_equations_rise(rt: HostRuntime) -> Result<(), Fail> {
-    assert!(rt; are_plain(&Whole, &pair(rt.alloc(), 0, 1)?));
-    assert!(rt; !are_plain(&Whole, &pair(rt.alloc(), 1, 1)?));
-    assert!(rt; !are_plain(&Whole, &pair(rt.alloc(), 1, 0)?));
+    let alloc = rt.alloc();
+    let rises = are_plain_at(alloc, 0, 1)?;
+    holds(&rt, "a later equation", rises);
+    let stays = are_plain_at(alloc, 1, 1)?;
+    holds(&rt, "the same equation", !stays);
+    let falls = are_plain_at(alloc, 1, 0)?;
+    holds(&rt, "an earlier equation", !falls);
     Ok(())
 }

@@ -2,6 +2,7 @@
 
 ghost use Rattle.std.specs.Prelude.{◌<◌, ◌≤◌, ◌^◌};
 
+use crate::expected::holds;
 use std::process::Abort;
 use tcl_ring::{Residue, Ring, Whole, Wide};
 
@@ -175,6 +176,14 @@ const ROWS: &[Row] = &[
     },
 ];
 
+fn expect(rt: &impl Abort, call: &str, row: &Row, is_so: bool) {
+    assert!(rt;
+        is_so,
+        "{call} at {} and {} modulo {}",
+        row.a, row.b, row.modulus
+    );
+}
+
 fn expect_row(rt: &impl Abort, row: &Row)
     requires positive { 0 < row.now.modulus }
     requires narrow { row.now.modulus ≤ 2 ^ 126 }
@@ -182,36 +191,13 @@ fn expect_row(rt: &impl Abort, row: &Row)
     let ring = Residue {
         modulus: row.modulus,
     };
-    let m = row.modulus;
-    assert!(rt;
-        ring.add(&row.a, &row.b) == Ok(row.sum),
-        "{} + {} modulo {m}",
-        row.a,
-        row.b
-    );
-    assert!(rt;
-        ring.mul(&row.a, &row.b) == Ok(row.product),
-        "{} * {} modulo {m}",
-        row.a,
-        row.b
-    );
-    assert!(rt;
-        ring.neg(&row.a) == Ok(row.negation),
-        "-({}) modulo {m}",
-        row.a
-    );
-    assert!(rt;
-        ring.inverse(&row.a) == row.inverse,
-        "inverse of {} modulo {m}",
-        row.a
-    );
-    assert!(rt;
-        ring.add_product(&row.a, &row.b, &row.a) == Ok(row.sum_with_product),
-        "{} + {} * {} modulo {m}",
-        row.a,
-        row.b,
-        row.a
-    );
+    let (a, b) = (row.a, row.b);
+    expect(rt, "add", row, ring.add(&a, &b) == Ok(row.sum));
+    expect(rt, "mul", row, ring.mul(&a, &b) == Ok(row.product));
+    expect(rt, "neg", row, ring.neg(&a) == Ok(row.negation));
+    expect(rt, "inverse", row, ring.inverse(&a) == row.inverse);
+    let both = ring.add_product(&a, &b, &a);
+    expect(rt, "add_product", row, both == Ok(row.sum_with_product));
 }
 
 #[test]
@@ -228,21 +214,37 @@ fn residues(rt: HostRuntime) {
     }
 }
 
+fn expect_sum(rt: &impl Abort, a: i128, b: i128, wanted: Result<i128, Wide>) {
+    holds(rt, "a sum", Whole.add(&a, &b) == wanted);
+}
+
+fn expect_product(rt: &impl Abort, a: i128, b: i128, wanted: Result<i128, Wide>) {
+    holds(rt, "a product", Whole.mul(&a, &b) == wanted);
+}
+
+fn expect_sum_with_product(rt: &impl Abort, a: i128, b: i128, c: i128, wanted: Result<i128, Wide>) {
+    holds(
+        rt,
+        "a sum with a product",
+        Whole.add_product(&a, &b, &c) == wanted,
+    );
+}
+
 // The greatest magnitude is 2^127 - 1, so the least `i128` is outside.
 #[test]
 fn edges_of_the_integers(rt: HostRuntime) {
     let half = 1i128 << 126;
-    assert!(rt; Whole.number(i128::MIN) == Err(Wide));
-    assert!(rt; Whole.number(i128::MAX) == Ok(i128::MAX));
-    assert!(rt; Whole.add(&half, &half) == Err(Wide));
-    assert!(rt; Whole.add(&(-half), &(-half)) == Err(Wide));
-    assert!(rt; Whole.add(&half, &(half - 1)) == Ok(i128::MAX));
-    assert!(rt; Whole.mul(&half, &-2) == Err(Wide));
-    assert!(rt; Whole.mul(&(1 << 64), &(1 << 62)) == Ok(half));
-    assert!(rt; Whole.inverse(&-1) == Some(-1));
-    assert!(rt; Whole.inverse(&2) == None);
-    assert!(rt; Whole.add_product(&(-half), &(1 << 64), &(1 << 62)) == Ok(0));
-    assert!(rt; Whole.add_product(&half, &(1 << 64), &(1 << 62)) == Err(Wide));
-    assert!(rt; Whole.add_product(&-1, &half, &2) == Ok(i128::MAX));
-    assert!(rt; Whole.add_product(&0, &half, &2) == Err(Wide));
+    holds(&rt, "-2^127", Whole.number(i128::MIN) == Err(Wide));
+    holds(&rt, "2^127 - 1", Whole.number(i128::MAX) == Ok(i128::MAX));
+    expect_sum(&rt, half, half, Err(Wide));
+    expect_sum(&rt, -half, -half, Err(Wide));
+    expect_sum(&rt, half, half - 1, Ok(i128::MAX));
+    expect_product(&rt, half, -2, Err(Wide));
+    expect_product(&rt, 1 << 64, 1 << 62, Ok(half));
+    holds(&rt, "the inverse of -1", Whole.inverse(&-1) == Some(-1));
+    holds(&rt, "no inverse of 2", Whole.inverse(&2) == None);
+    expect_sum_with_product(&rt, -half, 1 << 64, 1 << 62, Ok(0));
+    expect_sum_with_product(&rt, half, 1 << 64, 1 << 62, Err(Wide));
+    expect_sum_with_product(&rt, -1, half, 2, Ok(i128::MAX));
+    expect_sum_with_product(&rt, 0, half, 2, Err(Wide));
 }
