@@ -1,6 +1,6 @@
 // Forms of the programs of the table, and facts over them.
 
-use crate::programs::PROGRAMS;
+use crate::programs::programs;
 use std::alloc::{AllocError, Global};
 use std::test::Fail;
 use tcl_goals::{Claim, Cube, Fact, Hyp, Hyps, Uses};
@@ -20,7 +20,7 @@ pub(crate) fn form_of_text(alloc: Global, text: &str) -> Result<Ssa, Fail> {
 
 // The form of a program of the table.
 pub(crate) fn form_of(alloc: Global, program: usize) -> Result<Ssa, Fail> {
-    match PROGRAMS.get(program) {
+    match programs().get(program) {
         Some((text, _)) => form_of_text(alloc, text),
         None => Err("no such program")?,
     }

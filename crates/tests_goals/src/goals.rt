@@ -1,11 +1,11 @@
 // The goals of programs and their default hypotheses, against the table of programs.
 
-use crate::forms::{form_of, form_of_text};
-use crate::programs::PROGRAMS;
+use crate::expected::{agree, holds};
+use crate::forms::form_of_text;
+use crate::programs::programs;
 use std::alloc::{AllocError, Global};
-use std::process::Abort;
 use std::test::Fail;
-use tcl_goals::{Goal, Hyp, Kind, default_hyps, goals, has_goal, starts_at};
+use tcl_goals::{Goal, Hyp, Hyps, Kind, default_hyps, goals, has_goal, starts_at};
 use tcl_lang::Ssa;
 
 fn kind_word(kind: Kind) -> &'static str {
@@ -17,61 +17,74 @@ fn kind_word(kind: Kind) -> &'static str {
     }
 }
 
+// The places of the default hypotheses of a goal.
+fn push_hyps(text: &mut String, hyps: &Hyps) -> Result<(), AllocError> {
+    for hyp in hyps.as_slice() {
+        if let Hyp::Line(place) = hyp {
+            write!(text, " {place}")?;
+        }
+    }
+    Ok(())
+}
+
 // A goal as the table has it. The two starts are the same where there are whole cuts alone.
 fn push_goal(alloc: Global, text: &mut String, form: &Ssa, goal: Goal) -> Result<(), AllocError> {
     let place = goal.place as usize;
     if place >= form.lines().as_slice().len() || !has_goal(form.lines().as_slice(), goal.number) {
         return text.push_str("no goal");
     }
-    let starts = starts_at(form.lines().as_slice(), place);
-    text.push_str(format!(in alloc;
-        "{} {} {}:",
-        goal.place,
-        kind_word(goal.kind),
-        starts.range
-    )?.as_str())?;
-    let hyps = default_hyps(alloc, form, goal.number)?;
-    for hyp in hyps.as_slice() {
-        if let Hyp::Line(place) = hyp {
-            text.push_str(format!(in alloc; " {place}")?.as_str())?;
-        }
+    if !text.is_empty() {
+        text.push_str("; ")?;
     }
-    Ok(())
+    let start = starts_at(form.lines().as_slice(), place).range;
+    write!(text, "{} {} {start}:", goal.place, kind_word(goal.kind))?;
+    let hyps = default_hyps(alloc, form, goal.number)?;
+    push_hyps(text, &hyps)
+}
+
+fn goals_text(alloc: Global, form: &Ssa) -> Result<String, AllocError> {
+    let mut text = String::new(alloc);
+    for goal in goals(alloc, form)?.as_slice() {
+        push_goal(alloc, &mut text, form, *goal)?;
+    }
+    Ok(text)
 }
 
 #[test]
 fn goals_of_programs(rt: HostRuntime) -> Result<(), Fail> {
-    let alloc = rt.alloc();
-    for k in 0..PROGRAMS.len() {
-        let form = form_of(alloc, k)?;
-        let mut text = String::new(alloc);
-        for goal in goals(alloc, &form)?.as_slice() {
-            if !text.is_empty() {
-                text.push_str("; ")?;
-            }
-            push_goal(alloc, &mut text, &form, *goal)?;
-        }
-        assert!(&rt;
-            text.as_str() == PROGRAMS[k].1,
-            "the goals of program {k}: {text}"
-        );
+    for (program, wanted) in programs() {
+        let form = form_of_text(rt.alloc(), program)?;
+        let text = goals_text(rt.alloc(), &form)?;
+        agree(&rt, program, text.as_str(), wanted);
     }
     Ok(())
 }
 
-#[test]
-fn many_goals(rt: HostRuntime) -> Result<(), Fail> {
-    let alloc = rt.alloc();
+// A program of 4,096 goals.
+fn long_text(alloc: Global) -> Result<String, AllocError> {
     let mut text = String::new(alloc);
     for _ in 0..4096 {
         text.push_str("assert rng true\n")?;
     }
     text.push_str("end\n")?;
-    let form = form_of_text(alloc, text.as_str())?;
-    let found = goals(alloc, &form)?;
-    assert!(&rt; found.len() == 4096, "4,096 goals");
-    assert!(&rt; has_goal(form.lines().as_slice(), 4095), "the last goal");
-    let hyps = default_hyps(alloc, &form, 4095)?;
-    assert!(&rt; hyps.len() == 4095, "the hypotheses of the last");
+    Ok(text)
+}
+
+// How many default hypotheses a goal has, where it is one.
+fn count_of_hyps(alloc: Global, form: &Ssa, goal: u32) -> Result<usize, AllocError> {
+    if !has_goal(form.lines().as_slice(), goal) {
+        return Ok(0);
+    }
+    Ok(default_hyps(alloc, form, goal)?.len())
+}
+
+#[test]
+fn many_goals(rt: HostRuntime) -> Result<(), Fail> {
+    let text = long_text(rt.alloc())?;
+    let form = form_of_text(rt.alloc(), text.as_str())?;
+    let count = goals(rt.alloc(), &form)?.len();
+    holds(&rt, "4,096 goals", count == 4096);
+    let hyps = count_of_hyps(rt.alloc(), &form, 4095)?;
+    holds(&rt, "the hypotheses of the last", hyps == 4095);
     Ok(())
 }

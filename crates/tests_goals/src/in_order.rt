@@ -1,6 +1,7 @@
 // The five tests of a fact's order, and the keys of hypotheses. The reference, a second implementation of the language, gave
 // the answers.
 
+use crate::expected::holds;
 use crate::forms::{form_of_text, hyps_of, uses_of};
 use std::alloc::{AllocError, Global};
 use std::process::Abort;
@@ -54,29 +55,45 @@ fn key_of(alloc: Global, form: &Ssa, lemmas: &Lemmas, hyp: Hyp) -> Result<Option
     Ok(Some(order(form, &hyp, lemmas)))
 }
 
+// A level, a bit of a variable, and whether a lemma of the level may have the bit.
+const LEMMAS: &[(u32, u32, u32, bool)] = &[
+    (1, 1, 7, true),
+    (1, 2, 0, false),
+    (2, 2, 3, true),
+    (2, 2, 4, false),
+    (0, 0, 0, true),
+    (0, 1, 0, false),
+    (3, 0, 0, false),
+];
+
+fn has_lemma(
+    alloc: Global,
+    form: &Ssa,
+    level: u32,
+    bits: &[(u32, u32)],
+) -> Result<bool, AllocError> {
+    let lemma = lemma_of(alloc, level, bits)?;
+    Ok(has_claim(form, &Claim::Lemma(lemma)))
+}
+
 #[test]
 fn claims(rt: HostRuntime) -> Result<(), Fail> {
-    let alloc = rt.alloc();
-    let form = form_of_text(alloc, TEXT)?;
-    assert!(&rt; has_claim(&form, &Claim::Goal(2)), "the last goal");
-    assert!(&rt; !has_claim(&form, &Claim::Goal(3)), "no goal");
-    let table: &[(u32, u32, u32, bool)] = &[
-        (1, 1, 7, true),
-        (1, 2, 0, false),
-        (2, 2, 3, true),
-        (2, 2, 4, false),
-        (0, 0, 0, true),
-        (0, 1, 0, false),
-        (3, 0, 0, false),
-    ];
-    for (level, var, bit, has) in table {
-        let claim = Claim::Lemma(lemma_of(alloc, *level, &[(*var, *bit)])?);
-        assert!(&rt;
-            has_claim(&form, &claim) == *has,
-            "bit {bit} of {var} at level {level}"
-        );
+    let form = form_of_text(rt.alloc(), TEXT)?;
+    holds(&rt, "the last goal", has_claim(&form, &Claim::Goal(2)));
+    holds(&rt, "no goal", !has_claim(&form, &Claim::Goal(3)));
+    for (level, var, bit, has) in LEMMAS {
+        let found = has_lemma(rt.alloc(), &form, *level, &[(*var, *bit)])?;
+        expect(&rt, *var, *bit, found == *has);
     }
     Ok(())
+}
+
+fn expect(rt: &impl Abort, first: u32, second: u32, is_so: bool) {
+    assert!(rt; is_so, "the answer at {first} and {second}");
+}
+
+fn expect_places(rt: &impl Abort, what: &str, places: &[u32], is_so: bool) {
+    assert!(rt; is_so, "{what} {places:?}");
 }
 
 // Whether the lines at these places can be hypotheses.
@@ -97,11 +114,10 @@ const LINES: &[(&[u32], bool)] = &[
 
 #[test]
 fn lines_as_hypotheses(rt: HostRuntime) -> Result<(), Fail> {
-    let alloc = rt.alloc();
-    let form = form_of_text(alloc, TEXT)?;
+    let form = form_of_text(rt.alloc(), TEXT)?;
     for (places, has) in LINES {
-        let found = has_lines(alloc, &form, places)?;
-        assert!(&rt; found == *has, "the lines {places:?}");
+        let found = has_lines(rt.alloc(), &form, places)?;
+        expect_places(&rt, "the lines", places, found == *has);
     }
     Ok(())
 }
@@ -134,11 +150,11 @@ fn keys(rt: HostRuntime) -> Result<(), Fail> {
     let alloc = rt.alloc();
     let form = form_of_text(alloc, TEXT)?;
     let of_line = has_key(alloc, &form, Hyp::Line(3), Some(LINE_KEY))?;
-    assert!(&rt; of_line, "the key of a line");
+    holds(&rt, "the key of a line", of_line);
     let of_lemma = has_key(alloc, &form, Hyp::Lemma(5), Some(LEMMA_KEY))?;
-    assert!(&rt; of_lemma, "the key of a lemma");
+    holds(&rt, "the key of a lemma", of_lemma);
     let of_none = has_key(alloc, &form, Hyp::Lemma(4), None)?;
-    assert!(&rt; of_none, "no lemma");
+    holds(&rt, "no lemma", of_none);
     Ok(())
 }
 
@@ -167,49 +183,67 @@ const ORDERS: &[(u32, &[Hyp], bool)] = &[
 
 #[test]
 fn order_of_hypotheses(rt: HostRuntime) -> Result<(), Fail> {
-    let alloc = rt.alloc();
-    let form = form_of_text(alloc, TEXT)?;
+    let form = form_of_text(rt.alloc(), TEXT)?;
     for (goal, items, is_ordered) in ORDERS {
-        let found = has_order(alloc, &form, *goal, items)?;
-        assert!(&rt; found == *is_ordered, "hypotheses of goal {goal}");
+        let found = has_order(rt.alloc(), &form, *goal, items)?;
+        expect(&rt, *goal, items.len() as u32, found == *is_ordered);
     }
     Ok(())
 }
 
+// A goal, places, and whether they can be the uses of a fact of the goal.
+const USES: &[(u32, &[u32], bool)] = &[
+    (2, &[2, 4], true),
+    (2, &[4, 2], false),
+    (2, &[2, 2], false),
+    (2, &[3], false),
+    (2, &[0], false),
+    (2, &[7], false),
+    (0, &[2], false),
+    (1, &[2], true),
+    (1, &[4], false),
+];
+
+fn has_uses(alloc: Global, form: &Ssa, goal: u32, places: &[u32]) -> Result<bool, AllocError> {
+    let uses = uses_of(alloc, places)?;
+    Ok(are_uses(form, &Claim::Goal(goal), &uses))
+}
+
 #[test]
-fn uses_and_cubes(rt: HostRuntime) -> Result<(), Fail> {
-    let alloc = rt.alloc();
-    let form = form_of_text(alloc, TEXT)?;
-    let table: &[(u32, &[u32], bool)] = &[
-        (2, &[2, 4], true),
-        (2, &[4, 2], false),
-        (2, &[2, 2], false),
-        (2, &[3], false),
-        (2, &[0], false),
-        (2, &[7], false),
-        (0, &[2], false),
-        (1, &[2], true),
-        (1, &[4], false),
-    ];
-    for (goal, places, is_right) in table {
-        let found = are_uses(&form, &Claim::Goal(*goal), &uses_of(alloc, places)?);
-        assert!(&rt; found == *is_right, "the uses {places:?} of goal {goal}");
+fn uses(rt: HostRuntime) -> Result<(), Fail> {
+    let form = form_of_text(rt.alloc(), TEXT)?;
+    for (goal, places, is_right) in USES {
+        let found = has_uses(rt.alloc(), &form, *goal, places)?;
+        expect_places(&rt, "the uses", places, found == *is_right);
     }
-    let cubes: &[(u32, &[(u32, u32)], bool)] = &[
-        (2, &[(0, 7), (0, 6)], true),
-        (2, &[(0, 7), (0, 7)], false),
-        (2, &[(0, 8)], false),
-        (2, &[(2, 3)], true),
-        (2, &[(2, 4)], false),
-        (2, &[(3, 0)], false),
-        (1, &[(1, 0)], true),
-        (1, &[(2, 0)], false),
-        (0, &[(1, 0)], false),
-        (0, &[(0, 0)], true),
-    ];
-    for (goal, bits, is_right) in cubes {
-        let found = is_cube(&form, &Claim::Goal(*goal), &cube_of(alloc, bits)?);
-        assert!(&rt; found == *is_right, "the cube {bits:?} of goal {goal}");
+    Ok(())
+}
+
+// A goal, bits of variables, and whether they can be the cube of a fact of the goal.
+const CUBES: &[(u32, &[(u32, u32)], bool)] = &[
+    (2, &[(0, 7), (0, 6)], true),
+    (2, &[(0, 7), (0, 7)], false),
+    (2, &[(0, 8)], false),
+    (2, &[(2, 3)], true),
+    (2, &[(2, 4)], false),
+    (2, &[(3, 0)], false),
+    (1, &[(1, 0)], true),
+    (1, &[(2, 0)], false),
+    (0, &[(1, 0)], false),
+    (0, &[(0, 0)], true),
+];
+
+fn has_cube(alloc: Global, form: &Ssa, goal: u32, bits: &[(u32, u32)]) -> Result<bool, AllocError> {
+    let cube = cube_of(alloc, bits)?;
+    Ok(is_cube(form, &Claim::Goal(goal), &cube))
+}
+
+#[test]
+fn cubes(rt: HostRuntime) -> Result<(), Fail> {
+    let form = form_of_text(rt.alloc(), TEXT)?;
+    for (goal, bits, is_right) in CUBES {
+        let found = has_cube(rt.alloc(), &form, *goal, bits)?;
+        expect(&rt, *goal, bits.len() as u32, found == *is_right);
     }
     Ok(())
 }

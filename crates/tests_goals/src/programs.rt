@@ -1,7 +1,7 @@
 // Programs with their goals: for each goal its place, its kind, the start of its default hypotheses, and these. The reference,
 // a second implementation of the language, made the lines.
 
-pub(crate) const PROGRAMS: &[(&str, &str)] = &[
+const PROGRAMS: &[(&str, &str)] = &[
     (
         "in u8 x\npre rng x < 200@u8\nadd u8 y x 1@u8\ncut rng y <= 200@u8\nassert rng y <= 200@u8\nend",
         "2 exact 0: 1; 3 cut 0: 1 2; 4 assert 3: 3",
@@ -111,3 +111,8 @@ pub(crate) const PROGRAMS: &[(&str, &str)] = &[
         "5 cut 0:; 6 cut 0: 5; 7 exact 5: 5 6; 8 post 5: 5 6 7; 9 post 5: 5 6 7 8",
     ),
 ];
+
+/// The programs and their goals. A table is dear to prove wherever it is named, so it is named here alone.
+pub(crate) fn programs() -> &'static [(&'static str, &'static str)] {
+    PROGRAMS
+}

@@ -1,9 +1,11 @@
 // The facts of the two routes of each goal, and plans. The reference, a second implementation of the language, gave the answers.
 
-use crate::facts::FACTS;
-use crate::forms::{fact_of, form_of, form_of_text};
+ghost use Rattle.std.specs.Prelude.{◌≤◌};
+
+use crate::expected::{agree, expect};
+use crate::facts::{FACTS, Row, fact_of_row, row_of};
+use crate::forms::{form_of, form_of_text};
 use std::alloc::{AllocError, Global};
-use std::process::Abort;
 use std::test::Fail;
 use tcl_goals::{BitLit, Fact, Piece, Route, has_goal};
 use tcl_lang::Ssa;
@@ -34,11 +36,6 @@ const PLANS: &[(&str, u32, &str)] = &[
     ),
 ];
 
-// The facts of the table stand in order: where the two routes of a goal have one fact, it stands once.
-fn is_first(k: usize) -> bool {
-    k == 0 || k >= FACTS.len() || FACTS[k].0 != FACTS[k - 1].0 || FACTS[k].1 != FACTS[k - 1].1
-}
-
 fn slice_of(alloc: Global, form: &Ssa, goal: u32) -> Result<Fact, Fail> {
     if has_goal(form.lines().as_slice(), goal) {
         Ok(slice(alloc, form, goal)?)
@@ -55,18 +52,30 @@ fn whole_of(alloc: Global, form: &Ssa, goal: u32) -> Result<Fact, Fail> {
     }
 }
 
+// Whether the slice of the goal of a row is its fact.
+fn is_slice(alloc: Global, row: &Row) -> Result<bool, Fail> {
+    let fact = slice_of(alloc, &form_of(alloc, row.program)?, row.goal)?;
+    Ok(is_fact(alloc, &fact, row)?)
+}
+
+// Whether the whole fact of the goal of a row is its fact.
+fn is_whole(alloc: Global, row: &Row) -> Result<bool, Fail> {
+    let fact = whole_of(alloc, &form_of(alloc, row.program)?, row.goal)?;
+    Ok(is_fact(alloc, &fact, row)?)
+}
+
+fn is_fact(alloc: Global, fact: &Fact, row: &Row) -> Result<bool, AllocError> {
+    let wanted = fact_of_row(alloc, row)?;
+    Ok(fact.same(&wanted))
+}
+
 #[test]
 fn slices(rt: HostRuntime) -> Result<(), Fail> {
-    let alloc = rt.alloc();
-    for k in 0..FACTS.len() {
-        if is_first(k) {
-            let (program, goal, hyps, uses, _, _) = FACTS[k];
-            let wanted = fact_of(alloc, goal, hyps, uses)?;
-            let fact = slice_of(alloc, &form_of(alloc, program)?, goal)?;
-            assert!(&rt;
-                fact.same(&wanted),
-                "the slice of goal {goal} of program {program}"
-            );
+    for line in FACTS.trim().lines() {
+        let row = row_of(line).ok_or("a row of facts")?;
+        if row.route != "whole" {
+            let is_so = is_slice(rt.alloc(), &row)?;
+            expect(&rt, "the slice", row.program, row.goal, is_so);
         }
     }
     Ok(())
@@ -74,59 +83,65 @@ fn slices(rt: HostRuntime) -> Result<(), Fail> {
 
 #[test]
 fn whole_facts(rt: HostRuntime) -> Result<(), Fail> {
-    let alloc = rt.alloc();
-    for k in 0..FACTS.len() {
-        if is_first(k + 1) {
-            let (program, goal, hyps, uses, _, _) = FACTS[k];
-            let wanted = fact_of(alloc, goal, hyps, uses)?;
-            let fact = whole_of(alloc, &form_of(alloc, program)?, goal)?;
-            assert!(&rt;
-                fact.same(&wanted),
-                "the whole fact of goal {goal} of program {program}"
-            );
+    for line in FACTS.trim().lines() {
+        let row = row_of(line).ok_or("a row of facts")?;
+        if row.route != "cut" {
+            let is_so = is_whole(rt.alloc(), &row)?;
+            expect(&rt, "the whole fact", row.program, row.goal, is_so);
         }
     }
     Ok(())
 }
 
-fn push_bit(alloc: Global, text: &mut String, bit: BitLit) -> Result<(), AllocError> {
+fn push_bit(text: &mut String, bit: BitLit) -> Result<(), AllocError> {
     let value = if bit.value { 1 } else { 0 };
-    text.push_str(format!(in alloc; " {}.{}={value}", bit.var, bit.bit)?.as_str())
+    write!(text, " {}.{}={value}", bit.var, bit.bit)
 }
 
-fn push_piece(alloc: Global, text: &mut String, piece: &Piece) -> Result<(), AllocError> {
+fn word_of(route: Route) -> &'static str {
+    match route {
+        Route::Cut => "cut",
+        Route::Whole => "whole",
+    }
+}
+
+fn push_piece(text: &mut String, piece: &Piece) -> Result<(), AllocError> {
     if !text.is_empty() {
         text.push_str("; ")?;
     }
-    let route = match piece.route {
-        Route::Cut => "cut",
-        Route::Whole => "whole",
-    };
-    text.push_str(format!(in alloc; "{} {} {route}", piece.number, piece.goal)?.as_str())?;
+    let route = word_of(piece.route);
+    write!(text, "{} {} {route}", piece.number, piece.goal)?;
     for bit in piece.cube.as_slice() {
-        push_bit(alloc, text, *bit)?;
+        push_bit(text, *bit)?;
     }
     Ok(())
 }
 
-fn plan_text(alloc: Global, form: &Ssa, split: u32) -> Result<String, Fail> {
-    if split > 6 {
-        return Err("a split above 6")?;
-    }
+fn plan_text(alloc: Global, form: &Ssa, split: u32) -> Result<String, AllocError>
+    requires { split ≤ 6 }
+{
     let pieces = plan(alloc, form, split)?;
     let mut text = String::new(alloc);
     for piece in pieces.as_slice() {
-        push_piece(alloc, &mut text, piece)?;
+        push_piece(&mut text, piece)?;
     }
     Ok(text)
 }
 
+// The plan of a program.
+fn plan_of(alloc: Global, program: &str, split: u32) -> Result<String, Fail> {
+    let form = form_of_text(alloc, program)?;
+    if split > 6 {
+        return Err("a split above 6")?;
+    }
+    Ok(plan_text(alloc, &form, split)?)
+}
+
 #[test]
 fn plans(rt: HostRuntime) -> Result<(), Fail> {
-    let alloc = rt.alloc();
     for (program, split, wanted) in PLANS {
-        let text = plan_text(alloc, &form_of_text(alloc, program)?, *split)?;
-        assert!(&rt; text.as_str() == *wanted, "the plan of {program}: {text}");
+        let text = plan_of(rt.alloc(), program, *split)?;
+        agree(&rt, program, text.as_str(), wanted);
     }
     Ok(())
 }
