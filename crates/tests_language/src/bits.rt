@@ -30,40 +30,54 @@ fn signed(width: u32, number: u32) -> i32
     }
 }
 
-fn check(rt: &impl Abort, alloc: Global, width: u32, x: u32, y: u32) -> Result<(), Fail>
+fn check(rt: &impl Abort, alloc: Global, width: u32, x: u32, y: u32) -> Result<(), AllocError>
     requires narrow { width ≤ 4 }
     requires first { x < 16 }
     requires second { y < 16 }
 {
+    for carry in [0u32, 1] {
+        let is_right = is_sum_right(alloc, width, x, y, carry)?;
+        expect(rt, is_right, "sum", width, x, y);
+    }
     let xs = word(alloc, width, x)?;
     let ys = word(alloc, width, y)?;
-    assert_eq!(rt; xs.len(), ys.len());
-    for carry in [0u32, 1] {
-        let total = x + y + carry;
-        let sum = add(alloc, &xs, &ys, carry == 1)?;
-        let expected = word(alloc, width, total)?;
-        assert_eq!(rt;
-            sum.bits.as_slice(),
-            expected.as_slice(),
-            "{x} + {y} + {carry} at {width} bits"
-        );
-        assert_eq!(rt;
-            sum.carry,
-            total >> width == 1,
-            "carry of {x} + {y} + {carry} at {width} bits"
-        );
-    }
-    assert_eq!(rt;
-        is_less(false, &xs, &ys),
-        x < y,
-        "{x} < {y} at {width} bits"
-    );
-    assert_eq!(rt;
-        is_less(true, &xs, &ys),
-        signed(width, x) < signed(width, y),
-        "signed {x} < {y} at {width} bits"
-    );
+    let unsigned = less(false, &xs, &ys) == Some(x < y);
+    expect(rt, unsigned, "comparison", width, x, y);
+    let is_below = signed(width, x) < signed(width, y);
+    let signed = less(true, &xs, &ys) == Some(is_below);
+    expect(rt, signed, "signed comparison", width, x, y);
     Ok(())
+}
+
+fn expect(rt: &impl Abort, is_right: bool, what: &str, width: u32, x: u32, y: u32) {
+    assert!(rt; is_right, "the {what} of {x} and {y} at {width} bits");
+}
+
+// Whether the bits and the carry of the sum are those of the integers.
+fn is_sum_right(alloc: Global, width: u32, x: u32, y: u32, carry: u32) -> Result<bool, AllocError>
+    requires narrow { width ≤ 4 }
+    requires first { x < 16 }
+    requires second { y < 16 }
+    requires carried { carry < 2 }
+{
+    let xs = word(alloc, width, x)?;
+    let ys = word(alloc, width, y)?;
+    if xs.len() != ys.len() {
+        return Ok(false);
+    }
+    let total = x + y + carry;
+    let sum = add(alloc, &xs, &ys, carry == 1)?;
+    let expected = word(alloc, width, total)?;
+    Ok(sum.bits.as_slice() == expected.as_slice() && sum.carry == (total >> width == 1))
+}
+
+// Whether the first word is below the second, where they are of one length.
+fn less(is_signed: bool, xs: &[bool], ys: &[bool]) -> Option<bool> {
+    if xs.len() == ys.len() {
+        Some(is_less(is_signed, xs, ys))
+    } else {
+        None
+    }
 }
 
 // Every pair of operands of one to four bits, against the integers.

@@ -4,7 +4,6 @@ ghost use Rattle.std.specs.Prelude.{◌≡◌, ℕ, suc, pos, true, List};
 ghost use Rattle.tcl_lang.specs.declared.ty.Word.{Word};
 ghost use Rattle.tcl_lang.specs.declared.term.Term as plain_term;
 ghost use Rattle.tcl_lang.specs.declared.term.Term.TheViews as term;
-ghost use Rattle.tcl_lang.specs.Operands.{has_operands};
 ghost use Rattle.tcl_lang.specs.Term.{term_value};
 
 mod all_operands;
@@ -14,9 +13,7 @@ mod tables;
 
 use std::alloc::AllocError;
 use std::process::Abort;
-use tcl_lang::{
-    Args, Atom, Instr, Line, Op, Outs, Results, Ty, Word, results, run, run_before, word_at,
-};
+use tcl_lang::{Args, Atom, Instr, Line, Op, Outs, Results, Ty, Word, run, run_before, word_at};
 
 const U3: Ty = Ty {
     signed: false,
@@ -48,90 +45,86 @@ const S64: Ty = Ty {
     width: 64,
 };
 
-fn expect(
-    rt: &impl Abort,
-    op: Op,
-    ty: Ty,
-    amount: u32,
-    a: i128,
-    b: i128,
-    c: i128,
-    expected: Results,
-)
-    requires { has_operands op ty amount a b c ≡ true }
-{
-    assert!(rt; results(op, ty, amount, a, b, c) == expected, "{a} {b} {c}");
+// An instruction, its type and its amount, three operands, and the results.
+type Row = (Op, Ty, u32, i128, i128, i128, Results);
+
+fn expect(rt: &impl Abort, row: &Row) {
+    let (op, ty, amount, a, b, c, expected) = *row;
+    let is_so = all_operands::answer(op, ty, amount, a, b, c) == Some(expected);
+    assert!(rt; is_so, "{a} {b} {c}");
+}
+
+fn expect_rows(rt: &impl Abort, rows: &[Row]) {
+    for row in rows {
+        expect(rt, row);
+    }
 }
 
 // The results come from an executable reference in python3 that shares no code with this crate.
-#[test]
-fn unsigned_words(rt: HostRuntime) {
-    expect(&rt, Op::Mov, U3, 0, 5, 0, 0, Results::One(5));
-    expect(&rt, Op::Add, U3, 0, 7, 7, 0, Results::One(6));
-    expect(&rt, Op::Adc, U3, 0, 7, 5, 1, Results::One(5));
-    expect(&rt, Op::Sub, U3, 0, 0, 7, 0, Results::One(1));
-    expect(&rt, Op::Sbb, U3, 0, 0, 0, 1, Results::One(7));
-    expect(&rt, Op::Mul, U3, 0, 5, 7, 0, Results::One(3));
-    expect(&rt, Op::Mull, U3, 0, 5, 7, 0, Results::Two(4, 3));
-    expect(&rt, Op::Mull, U3, 0, 0, 0, 0, Results::Two(0, 0));
-    expect(&rt, Op::Mulj, U3, 0, 0, 7, 0, Results::One(0));
-    expect(&rt, Op::Mulj, U3, 0, 7, 7, 0, Results::One(49));
-    expect(&rt, Op::Shl, U3, 1, 5, 0, 0, Results::One(2));
-    expect(&rt, Op::Shl, U3, 2, 7, 0, 0, Results::One(4));
-    expect(&rt, Op::Split, U3, 2, 5, 0, 0, Results::Two(1, 1));
-    expect(&rt, Op::Split, U3, 1, 7, 0, 0, Results::Two(3, 1));
-    expect(&rt, Op::Join, U3, 0, 5, 6, 0, Results::One(46));
-    expect(&rt, Op::Cast, U3, 0, -7, 0, 0, Results::One(1));
-    expect(&rt, Op::Vpc, U3, 0, 12, 0, 0, Results::One(4));
-    expect(&rt, Op::Cmov, U3, 0, 1, 7, 0, Results::One(7));
-    expect(&rt, Op::Cmov, U3, 0, 0, 7, 0, Results::One(0));
-    expect(&rt, Op::And, U3, 0, 5, 7, 0, Results::One(5));
-    expect(&rt, Op::Or, U3, 0, 5, 0, 0, Results::One(5));
-    expect(&rt, Op::Xor, U3, 0, 5, 7, 0, Results::One(2));
-    expect(&rt, Op::Not, U3, 0, 5, 0, 0, Results::One(2));
-    expect(&rt, Op::Nondet, U3, 0, 5, 0, 0, Results::One(5));
-    expect(&rt, Op::Adds, U3, 0, 7, 7, 0, Results::Two(1, 6));
-    expect(&rt, Op::Adcs, U3, 0, 7, 7, 1, Results::Two(1, 7));
-    expect(&rt, Op::Adds, U3, 0, 3, 4, 0, Results::Two(0, 7));
-    expect(&rt, Op::Adcs, U3, 0, 3, 4, 1, Results::Two(1, 0));
-    expect(&rt, Op::Subb, U3, 0, 2, 7, 0, Results::Two(1, 3));
-    expect(&rt, Op::Sbbs, U3, 0, 2, 7, 1, Results::Two(1, 2));
-    expect(&rt, Op::Subb, U3, 0, 7, 2, 0, Results::Two(0, 5));
-    expect(&rt, Op::Sbbs, U3, 0, 7, 2, 1, Results::Two(0, 4));
-}
+const UNSIGNED: &[Row] = &[
+    (Op::Mov, U3, 0, 5, 0, 0, Results::One(5)),
+    (Op::Add, U3, 0, 7, 7, 0, Results::One(6)),
+    (Op::Adc, U3, 0, 7, 5, 1, Results::One(5)),
+    (Op::Sub, U3, 0, 0, 7, 0, Results::One(1)),
+    (Op::Sbb, U3, 0, 0, 0, 1, Results::One(7)),
+    (Op::Mul, U3, 0, 5, 7, 0, Results::One(3)),
+    (Op::Mull, U3, 0, 5, 7, 0, Results::Two(4, 3)),
+    (Op::Mull, U3, 0, 0, 0, 0, Results::Two(0, 0)),
+    (Op::Mulj, U3, 0, 0, 7, 0, Results::One(0)),
+    (Op::Mulj, U3, 0, 7, 7, 0, Results::One(49)),
+    (Op::Shl, U3, 1, 5, 0, 0, Results::One(2)),
+    (Op::Shl, U3, 2, 7, 0, 0, Results::One(4)),
+    (Op::Split, U3, 2, 5, 0, 0, Results::Two(1, 1)),
+    (Op::Split, U3, 1, 7, 0, 0, Results::Two(3, 1)),
+    (Op::Join, U3, 0, 5, 6, 0, Results::One(46)),
+    (Op::Cast, U3, 0, -7, 0, 0, Results::One(1)),
+    (Op::Vpc, U3, 0, 12, 0, 0, Results::One(4)),
+    (Op::Cmov, U3, 0, 1, 7, 0, Results::One(7)),
+    (Op::Cmov, U3, 0, 0, 7, 0, Results::One(0)),
+    (Op::And, U3, 0, 5, 7, 0, Results::One(5)),
+    (Op::Or, U3, 0, 5, 0, 0, Results::One(5)),
+    (Op::Xor, U3, 0, 5, 7, 0, Results::One(2)),
+    (Op::Not, U3, 0, 5, 0, 0, Results::One(2)),
+    (Op::Nondet, U3, 0, 5, 0, 0, Results::One(5)),
+    (Op::Adds, U3, 0, 7, 7, 0, Results::Two(1, 6)),
+    (Op::Adcs, U3, 0, 7, 7, 1, Results::Two(1, 7)),
+    (Op::Adds, U3, 0, 3, 4, 0, Results::Two(0, 7)),
+    (Op::Adcs, U3, 0, 3, 4, 1, Results::Two(1, 0)),
+    (Op::Subb, U3, 0, 2, 7, 0, Results::Two(1, 3)),
+    (Op::Sbbs, U3, 0, 2, 7, 1, Results::Two(1, 2)),
+    (Op::Subb, U3, 0, 7, 2, 0, Results::Two(0, 5)),
+    (Op::Sbbs, U3, 0, 7, 2, 1, Results::Two(0, 4)),
+];
 
-#[test]
-fn signed_words(rt: HostRuntime) {
-    expect(&rt, Op::Mov, S3, 0, -3, 0, 0, Results::One(-3));
-    expect(&rt, Op::Add, S3, 0, 3, 3, 0, Results::One(-2));
-    expect(&rt, Op::Adc, S3, 0, 3, -3, 1, Results::One(1));
-    expect(&rt, Op::Sub, S3, 0, -4, 3, 0, Results::One(1));
-    expect(&rt, Op::Sbb, S3, 0, -4, -4, 1, Results::One(-1));
-    expect(&rt, Op::Mul, S3, 0, -3, 3, 0, Results::One(-1));
-    expect(&rt, Op::Mull, S3, 0, -3, 3, 0, Results::Two(-2, 7));
-    expect(&rt, Op::Mull, S3, 0, -4, -4, 0, Results::Two(2, 0));
-    expect(&rt, Op::Mulj, S3, 0, -4, 3, 0, Results::One(-12));
-    expect(&rt, Op::Mulj, S3, 0, 3, 3, 0, Results::One(9));
-    expect(&rt, Op::Shl, S3, 1, -3, 0, 0, Results::One(2));
-    expect(&rt, Op::Shl, S3, 2, 3, 0, 0, Results::One(-4));
-    expect(&rt, Op::Split, S3, 2, -3, 0, 0, Results::Two(-1, 1));
-    expect(&rt, Op::Split, S3, 1, 3, 0, 0, Results::Two(1, 1));
-    expect(&rt, Op::Join, S3, 0, -3, 6, 0, Results::One(-18));
-    expect(&rt, Op::Cast, S3, 0, -7, 0, 0, Results::One(1));
-    expect(&rt, Op::Vpc, S3, 0, 12, 0, 0, Results::One(-4));
-    expect(&rt, Op::Cmov, S3, 0, 1, 3, -4, Results::One(3));
-    expect(&rt, Op::Cmov, S3, 0, 0, 3, -4, Results::One(-4));
-    expect(&rt, Op::And, S3, 0, -3, 3, 0, Results::One(1));
-    expect(&rt, Op::Or, S3, 0, -3, -4, 0, Results::One(-3));
-    expect(&rt, Op::Xor, S3, 0, -3, 3, 0, Results::One(-2));
-    expect(&rt, Op::Not, S3, 0, -3, 0, 0, Results::One(2));
-    expect(&rt, Op::Nondet, S3, 0, -3, 0, 0, Results::One(-3));
-}
+const SIGNED: &[Row] = &[
+    (Op::Mov, S3, 0, -3, 0, 0, Results::One(-3)),
+    (Op::Add, S3, 0, 3, 3, 0, Results::One(-2)),
+    (Op::Adc, S3, 0, 3, -3, 1, Results::One(1)),
+    (Op::Sub, S3, 0, -4, 3, 0, Results::One(1)),
+    (Op::Sbb, S3, 0, -4, -4, 1, Results::One(-1)),
+    (Op::Mul, S3, 0, -3, 3, 0, Results::One(-1)),
+    (Op::Mull, S3, 0, -3, 3, 0, Results::Two(-2, 7)),
+    (Op::Mull, S3, 0, -4, -4, 0, Results::Two(2, 0)),
+    (Op::Mulj, S3, 0, -4, 3, 0, Results::One(-12)),
+    (Op::Mulj, S3, 0, 3, 3, 0, Results::One(9)),
+    (Op::Shl, S3, 1, -3, 0, 0, Results::One(2)),
+    (Op::Shl, S3, 2, 3, 0, 0, Results::One(-4)),
+    (Op::Split, S3, 2, -3, 0, 0, Results::Two(-1, 1)),
+    (Op::Split, S3, 1, 3, 0, 0, Results::Two(1, 1)),
+    (Op::Join, S3, 0, -3, 6, 0, Results::One(-18)),
+    (Op::Cast, S3, 0, -7, 0, 0, Results::One(1)),
+    (Op::Vpc, S3, 0, 12, 0, 0, Results::One(-4)),
+    (Op::Cmov, S3, 0, 1, 3, -4, Results::One(3)),
+    (Op::Cmov, S3, 0, 0, 3, -4, Results::One(-4)),
+    (Op::And, S3, 0, -3, 3, 0, Results::One(1)),
+    (Op::Or, S3, 0, -3, -4, 0, Results::One(-3)),
+    (Op::Xor, S3, 0, -3, 3, 0, Results::One(-2)),
+    (Op::Not, S3, 0, -3, 0, 0, Results::One(2)),
+    (Op::Nondet, S3, 0, -3, 0, 0, Results::One(-3)),
+];
 
-#[test]
-fn wide_products(rt: HostRuntime) {
-    expect(
-        &rt,
+const WIDE: &[Row] = &[
+    (
         Op::Mul,
         U64,
         0,
@@ -139,9 +132,8 @@ fn wide_products(rt: HostRuntime) {
         18446744073709551613,
         0,
         Results::One(3),
-    );
-    expect(
-        &rt,
+    ),
+    (
         Op::Mull,
         U64,
         0,
@@ -149,9 +141,8 @@ fn wide_products(rt: HostRuntime) {
         18446744073709551615,
         0,
         Results::Two(18446744073709551614, 1),
-    );
-    expect(
-        &rt,
+    ),
+    (
         Op::Mull,
         S64,
         0,
@@ -159,7 +150,22 @@ fn wide_products(rt: HostRuntime) {
         -9223372036854775808,
         0,
         Results::Two(4611686018427387904, 0),
-    );
+    ),
+];
+
+#[test]
+fn unsigned_words(rt: HostRuntime) {
+    expect_rows(&rt, UNSIGNED);
+}
+
+#[test]
+fn signed_words(rt: HostRuntime) {
+    expect_rows(&rt, SIGNED);
+}
+
+#[test]
+fn wide_products(rt: HostRuntime) {
+    expect_rows(&rt, WIDE);
 }
 
 // A name that is defined again at another type: 200 as `u8`, then as `s8`.

@@ -4,6 +4,8 @@
 #[cfg(test)]
 mod bits;
 #[cfg(test)]
+mod expected;
+#[cfg(test)]
 mod language;
 #[cfg(test)]
 mod lists;

@@ -1,9 +1,9 @@
 //! Which lists of words each tool takes, and what they choose. The expected values were computed by a second reading
 //! of the words.
 
+use crate::expected::agree;
 use std::alloc::{AllocError, Global};
 use std::fmt::Write;
-use std::process::Abort;
 use std::test::Fail;
 use tcl_cli::{Options, Tool, UsageFault, read_words};
 
@@ -95,7 +95,7 @@ fn words_of(alloc: Global, text: &str) -> Result<Vec<String>, AllocError> {
 }
 
 /// What the options choose, as a line of the table has it.
-fn text_of(alloc: Global, options: Options) -> Result<String, Fail> {
+fn text_of(alloc: Global, options: Options) -> Result<String, AllocError> {
     let mut text = String::new(alloc);
     write!(
         text,
@@ -112,29 +112,33 @@ fn text_of(alloc: Global, options: Options) -> Result<String, Fail> {
 }
 
 /// What the tool makes of the words.
-fn answer(alloc: Global, tool: Tool, words: &[String]) -> Result<String, Fail> {
+fn answer(alloc: Global, tool: Tool, words: &[String]) -> Result<String, AllocError> {
     match read_words(alloc, tool, words) {
         Ok(options) => text_of(alloc, options),
-        Err(UsageFault::Words) => Ok(String::from_str(alloc, "usage")?),
-        Err(UsageFault::Memory) => Err(Fail::from("out of memory")),
+        Err(UsageFault::Words) => String::from_str(alloc, "usage"),
+        Err(UsageFault::Memory) => String::from_str(alloc, "memory"),
     }
 }
 
-fn expect_row(rt: &impl Abort, alloc: Global, row: &str) -> Result<(), Fail> {
-    let (name, rest) = row.split_once(':').ok_or("no tool")?;
-    let (text, expected) = rest.split_once(':').ok_or("no answer")?;
-    let tool = tool_named(name).ok_or("no tool")?;
+/// What the tool makes of the words of a text.
+fn answer_to_text(alloc: Global, tool: Tool, text: &str) -> Result<String, AllocError> {
     let words = words_of(alloc, text)?;
-    let found = answer(alloc, tool, words.as_slice())?;
-    assert!(rt; found.as_str() == expected, "{name} {text}");
-    Ok(())
+    answer(alloc, tool, words.as_slice())
+}
+
+/// The tool, the words and the answer of a row.
+fn row_of(row: &str) -> Option<(Tool, &str, &str)> {
+    let (name, rest) = row.split_once(':')?;
+    let (text, expected) = rest.split_once(':')?;
+    Some((tool_named(name)?, text, expected))
 }
 
 #[test]
 fn lists_of_words(rt: HostRuntime) -> Result<(), Fail> {
-    let alloc = rt.alloc();
     for row in LISTS.lines() {
-        expect_row(&rt, alloc, row)?;
+        let (tool, text, expected) = row_of(row).ok_or("a row of lists")?;
+        let found = answer_to_text(rt.alloc(), tool, text)?;
+        agree(&rt, row, found.as_str(), expected);
     }
     Ok(())
 }

@@ -7,8 +7,8 @@ ghost use Rattle.tcl_lang.specs.Typing as typing;
 ghost use Rattle.tcl_lang.specs.Operands as operands;
 
 use super::{S3, U3, tables};
+use crate::expected::agree;
 use std::alloc::{AllocError, Global};
-use std::process::Abort;
 use std::test::Fail;
 use tcl_lang::{Op, Results, Ty, in_type, results};
 
@@ -114,6 +114,15 @@ fn results_at(op: Op, ty: Ty, amount: u32, a: i128, b: i128, c: i128) -> Results
     results(op, ty, amount, a, b, c)
 }
 
+// The results, where the operands are such as the instruction takes.
+pub(super) fn answer(op: Op, ty: Ty, amount: u32, a: i128, b: i128, c: i128) -> Option<Results> {
+    if has_operands(op, ty, amount, a, b, c) {
+        Some(results_at(op, ty, amount, a, b, c))
+    } else {
+        None
+    }
+}
+
 const VALUES: [i128; 16] = [-8, -7, -6, -5, -4, -3, -2, -1, 0, 1, 2, 3, 4, 5, 6, 7];
 
 // The values that are tried for operand k; one where there is no operand k.
@@ -173,42 +182,47 @@ fn write_all(text: &mut String, op: Op, ty: Ty) -> Result<(), AllocError> {
     Ok(())
 }
 
-fn expect_all(rt: &impl Abort, alloc: Global, op: Op, expected: &str) -> Result<(), Fail> {
+fn text_of(alloc: Global, op: Op) -> Result<String, AllocError> {
     let mut text = String::new(alloc);
     for ty in [U1, U2, U3, S2, S3] {
         if allows(op, ty) {
             write_all(&mut text, op, ty)?;
         }
     }
-    assert_eq!(rt; text.as_str(), expected);
-    Ok(())
+    Ok(text)
 }
+
+const TABLES: &[(Op, &str)] = &[
+    (Op::Mov, tables::MOV),
+    (Op::Add, tables::ADD),
+    (Op::Adds, tables::ADDS),
+    (Op::Adc, tables::ADC),
+    (Op::Adcs, tables::ADCS),
+    (Op::Sub, tables::SUB),
+    (Op::Subb, tables::SUBB),
+    (Op::Sbb, tables::SBB),
+    (Op::Sbbs, tables::SBBS),
+    (Op::Mul, tables::MUL),
+    (Op::Mull, tables::MULL),
+    (Op::Mulj, tables::MULJ),
+    (Op::Shl, tables::SHL),
+    (Op::Split, tables::SPLIT),
+    (Op::Join, tables::JOIN),
+    (Op::Cast, tables::CAST),
+    (Op::Vpc, tables::VPC),
+    (Op::Cmov, tables::CMOV),
+    (Op::And, tables::AND),
+    (Op::Or, tables::OR),
+    (Op::Xor, tables::XOR),
+    (Op::Not, tables::NOT),
+    (Op::Nondet, tables::NONDET),
+];
 
 #[test]
 fn narrow_words(rt: HostRuntime) -> Result<(), Fail> {
-    let alloc = rt.alloc();
-    expect_all(&rt, alloc, Op::Mov, tables::MOV)?;
-    expect_all(&rt, alloc, Op::Add, tables::ADD)?;
-    expect_all(&rt, alloc, Op::Adds, tables::ADDS)?;
-    expect_all(&rt, alloc, Op::Adc, tables::ADC)?;
-    expect_all(&rt, alloc, Op::Adcs, tables::ADCS)?;
-    expect_all(&rt, alloc, Op::Sub, tables::SUB)?;
-    expect_all(&rt, alloc, Op::Subb, tables::SUBB)?;
-    expect_all(&rt, alloc, Op::Sbb, tables::SBB)?;
-    expect_all(&rt, alloc, Op::Sbbs, tables::SBBS)?;
-    expect_all(&rt, alloc, Op::Mul, tables::MUL)?;
-    expect_all(&rt, alloc, Op::Mull, tables::MULL)?;
-    expect_all(&rt, alloc, Op::Mulj, tables::MULJ)?;
-    expect_all(&rt, alloc, Op::Shl, tables::SHL)?;
-    expect_all(&rt, alloc, Op::Split, tables::SPLIT)?;
-    expect_all(&rt, alloc, Op::Join, tables::JOIN)?;
-    expect_all(&rt, alloc, Op::Cast, tables::CAST)?;
-    expect_all(&rt, alloc, Op::Vpc, tables::VPC)?;
-    expect_all(&rt, alloc, Op::Cmov, tables::CMOV)?;
-    expect_all(&rt, alloc, Op::And, tables::AND)?;
-    expect_all(&rt, alloc, Op::Or, tables::OR)?;
-    expect_all(&rt, alloc, Op::Xor, tables::XOR)?;
-    expect_all(&rt, alloc, Op::Not, tables::NOT)?;
-    expect_all(&rt, alloc, Op::Nondet, tables::NONDET)?;
+    for (op, expected) in TABLES {
+        let text = text_of(rt.alloc(), *op)?;
+        agree(&rt, "results", text.as_str(), expected);
+    }
     Ok(())
 }

@@ -1,6 +1,7 @@
 // What the lines of a program answer of themselves. The names are a, b, c, d, e, numbered from 0 in this order; the rest
 // was read off the text by hand.
 
+use crate::expected::agree;
 use std::alloc::{AllocError, Global};
 use std::process::Abort;
 use std::test::Fail;
@@ -79,7 +80,7 @@ fn words_of_lines(rt: HostRuntime) -> Result<(), Fail> {
     for line in parsed.program().lines().as_slice() {
         write_line(&mut text, line)?;
     }
-    assert_eq!(rt; text.as_str(), ANSWERS);
+    agree(&rt, "words of lines", text.as_str(), ANSWERS);
     Ok(())
 }
 
