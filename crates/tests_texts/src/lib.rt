@@ -4,6 +4,8 @@
 #[cfg(test)]
 mod deep_lines;
 #[cfg(test)]
+mod expected;
+#[cfg(test)]
 mod texts;
 #[cfg(test)]
 mod trees;

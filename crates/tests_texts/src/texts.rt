@@ -1,6 +1,10 @@
 // Texts with the first fault that the parser finds in them. The answers were made by the reference's `parse` command.
 
+use crate::expected::holds;
 use std::alloc::{AllocError, Global};
+use std::process::Abort;
+use std::test::Fail;
+use tcl_lang::Parsed;
 use tcl_parse::{ParseFault, parse};
 use tcl_text::Limit;
 
@@ -47,8 +51,39 @@ fn repeated(
     Ok(text)
 }
 
+// Texts, each with the word of its answer and the line that it names.
+fn expect_answers(rt: &impl Abort, alloc: Global, table: &[(&str, &str, u64)]) {
+    for (text, word, number) in table {
+        let is_so = is_answered(alloc, text.as_bytes(), word, *number);
+        holds(rt, text, is_so);
+    }
+}
+
+// A beginning, a piece and how many times it stands, an end, the word of the answer and the line that it names.
+type Repeated = (
+    &'static str,
+    &'static str,
+    u64,
+    &'static str,
+    &'static str,
+    u64,
+);
+
+fn is_answered_repeated(alloc: Global, row: &Repeated) -> Result<bool, AllocError> {
+    let text = repeated(alloc, row.0, row.1, row.2, row.3)?;
+    Ok(is_answered(alloc, text.as_str().as_bytes(), row.4, row.5))
+}
+
+fn expect_repeated(rt: &impl Abort, alloc: Global, table: &[Repeated]) -> Result<(), AllocError> {
+    for row in table {
+        let is_so = is_answered_repeated(alloc, row)?;
+        holds(rt, row.1, is_so);
+    }
+    Ok(())
+}
+
 #[test]
-fn the_lines_of_a_text(rt: HostRuntime) -> Result<(), AllocError> {
+fn the_lines_of_a_text(rt: HostRuntime) {
     let table: &[(&str, &str, u64)] = &[
         ("", "shape", 1),
         ("end", "ok", 0),
@@ -82,18 +117,11 @@ fn the_lines_of_a_text(rt: HostRuntime) -> Result<(), AllocError> {
         ("\0end", "text", 1),
         ("end\u{b}", "text", 1),
     ];
-    let alloc = rt.alloc();
-    for (text, word, number) in table {
-        assert!(rt;
-            is_answered(alloc, text.as_bytes(), *word, *number),
-            "{text}"
-        );
-    }
-    Ok(())
+    expect_answers(&rt, rt.alloc(), table);
 }
 
 #[test]
-fn the_tokens_of_a_line(rt: HostRuntime) -> Result<(), AllocError> {
+fn the_tokens_of_a_line(rt: HostRuntime) {
     let table: &[(&str, &str, u64)] = &[
         (
             "in u8 aaaaaaaaaaaaaaaaaaaaaaaaaaaaaaaaaaaaaaaaaaaaaaaaaaaaaaaaaaaaaaaa\nend",
@@ -160,18 +188,11 @@ fn the_tokens_of_a_line(rt: HostRuntime) -> Result<(), AllocError> {
         ("in u8 x\nadd u8 y x 1 @ u8\nend", "ok", 0),
         ("in u8 x\nadd u8 y x 1@ u8\nend", "ok", 0),
     ];
-    let alloc = rt.alloc();
-    for (text, word, number) in table {
-        assert!(rt;
-            is_answered(alloc, text.as_bytes(), *word, *number),
-            "{text}"
-        );
-    }
-    Ok(())
+    expect_answers(&rt, rt.alloc(), table);
 }
 
 #[test]
-fn the_forms_of_lines(rt: HostRuntime) -> Result<(), AllocError> {
+fn the_forms_of_lines(rt: HostRuntime) {
     let table: &[(&str, &str, u64)] = &[
         ("in x u8\nend", "text", 1),
         ("in u8 x y\nend", "text", 1),
@@ -216,18 +237,11 @@ fn the_forms_of_lines(rt: HostRuntime) -> Result<(), AllocError> {
         ("end end", "text", 1),
         ("add u8 y (1@u8) 2@u8\nend", "text", 1),
     ];
-    let alloc = rt.alloc();
-    for (text, word, number) in table {
-        assert!(rt;
-            is_answered(alloc, text.as_bytes(), *word, *number),
-            "{text}"
-        );
-    }
-    Ok(())
+    expect_answers(&rt, rt.alloc(), table);
 }
 
 #[test]
-fn the_places_of_lines(rt: HostRuntime) -> Result<(), AllocError> {
+fn the_places_of_lines(rt: HostRuntime) {
     let table: &[(&str, &str, u64)] = &[
         ("pre rng true\nin u8 x\nend", "shape", 2),
         ("in u8 x\npre rng true\nin u8 y\nend", "shape", 3),
@@ -247,18 +261,11 @@ fn the_places_of_lines(rt: HostRuntime) -> Result<(), AllocError> {
         ("post rng true\n\n# end\n", "shape", 4),
         ("post rng true\nin u8 x\n$", "shape", 2),
     ];
-    let alloc = rt.alloc();
-    for (text, word, number) in table {
-        assert!(rt;
-            is_answered(alloc, text.as_bytes(), *word, *number),
-            "{text}"
-        );
-    }
-    Ok(())
+    expect_answers(&rt, rt.alloc(), table);
 }
 
 #[test]
-fn terms_and_predicates(rt: HostRuntime) -> Result<(), AllocError> {
+fn terms_and_predicates(rt: HostRuntime) {
     let table: &[(&str, &str, u64)] = &[
         ("assert alg x+y-z*2 = -x\nend", "ok", 0),
         ("assert alg -x**2 = (-x)**2\nend", "ok", 0),
@@ -311,19 +318,12 @@ fn terms_and_predicates(rt: HostRuntime) -> Result<(), AllocError> {
         ("assert rng x = y && x != y || x >= y\nend", "ok", 0),
         ("assert rng x > y && [x < y || x <= y]\nend", "ok", 0),
     ];
-    let alloc = rt.alloc();
-    for (text, word, number) in table {
-        assert!(rt;
-            is_answered(alloc, text.as_bytes(), *word, *number),
-            "{text}"
-        );
-    }
-    Ok(())
+    expect_answers(&rt, rt.alloc(), table);
 }
 
 #[test]
 fn the_limits_of_lines(rt: HostRuntime) -> Result<(), AllocError> {
-    let table: &[(&str, &str, u64, &str, &str, u64)] = &[
+    let table: &[Repeated] = &[
         (
             "assert rng ",
             "[",
@@ -374,20 +374,12 @@ fn the_limits_of_lines(rt: HostRuntime) -> Result<(), AllocError> {
         ("end\nassert alg x**1025 = 0", "", 0, "", "exponent", 0),
         ("assert alg x**1025 = \nend", "", 0, "", "text", 1),
     ];
-    let alloc = rt.alloc();
-    for (before, piece, times, behind, word, number) in table {
-        let text = repeated(alloc, *before, *piece, *times, *behind)?;
-        assert!(rt;
-            is_answered(alloc, text.as_bytes(), *word, *number),
-            "{before}{piece} {times}"
-        );
-    }
-    Ok(())
+    expect_repeated(&rt, rt.alloc(), table)
 }
 
 #[test]
 fn the_limits_of_programs(rt: HostRuntime) -> Result<(), AllocError> {
-    let table: &[(&str, &str, u64, &str, &str, u64)] = &[
+    let table: &[Repeated] = &[
         ("", "mov u8 y 1@u8\n", 4096, "end", "ok", 0),
         ("", "mov u8 y 1@u8\n", 4097, "end", "instructions", 0),
         ("", "mov u8 y 1@u8\n", 4097, "", "shape", 4098),
@@ -417,25 +409,21 @@ fn the_limits_of_programs(rt: HostRuntime) -> Result<(), AllocError> {
         ("", "assume rng true\n", 5000, "end", "ok", 0),
         ("", "\n", 70000, "end x", "text", 70001),
     ];
-    let alloc = rt.alloc();
-    for (before, piece, times, behind, word, number) in table {
-        let text = repeated(alloc, *before, *piece, *times, *behind)?;
-        assert!(rt;
-            is_answered(alloc, text.as_bytes(), *word, *number),
-            "{before}{piece} {times}"
-        );
-    }
-    Ok(())
+    expect_repeated(&rt, rt.alloc(), table)
+}
+
+// Whether the names and the places are those of the text.
+fn is_counted(parsed: &Parsed) -> bool {
+    let names = parsed.program().names();
+    names.len() == 2
+        && names.as_slice()[1].as_slice() == b"y".as_slice()
+        && parsed.places().as_slice() == [1, 3, 4].as_slice()
 }
 
 #[test]
-fn names_are_numbered_and_places_counted(rt: HostRuntime) -> Result<(), AllocError> {
+fn names_are_numbered_and_places_counted(rt: HostRuntime) -> Result<(), Fail> {
     let text = "in u8 x\n\nadd u8 y x 1@u8 # y\nassert rng x < y\nend";
-    let Ok(parsed) = parse(rt.alloc(), text.as_bytes()) else {
-        panic!(rt; "the text is not read")
-    };
-    assert!(rt; parsed.program().names().len() == 2);
-    assert!(rt; parsed.program().names().as_slice()[1].as_slice() == b"y".as_slice());
-    assert!(rt; parsed.places().as_slice() == [1, 3, 4].as_slice());
+    let parsed = parse(rt.alloc(), text.as_bytes())?;
+    holds(&rt, "names and places", is_counted(&parsed));
     Ok(())
 }

@@ -1,6 +1,7 @@
 // Terms, predicates and lines as the parser reads them. The trees and the answers were made by the reference's `parse`
 // command.
 
+use crate::expected::agree;
 use std::alloc::{AllocError, Global};
 use std::fmt::Write;
 use std::process::Abort;
@@ -353,6 +354,12 @@ fn text_of(alloc: Global, start: &str, line: &str, end: &str) -> Result<String, 
     format!(in alloc; "in u8 a\nin u8 b\nin u8 c\nin u8 d\n{start}{line}{end}\nend")
 }
 
+// The tree of a line between these texts.
+fn tree_of(alloc: Global, start: &str, line: &str, end: &str) -> Result<String, AllocError> {
+    let text = text_of(alloc, start, line, end)?;
+    answer(alloc, text.as_str(), Print::Tree)
+}
+
 fn expect_rows(
     rt: &impl Abort,
     alloc: Global,
@@ -362,9 +369,8 @@ fn expect_rows(
 ) -> Result<(), Fail> {
     for row in rows.lines() {
         let (line, tree) = row.split_once(" -> ").ok_or("no tree")?;
-        let text = text_of(alloc, start, line, end)?;
-        let found = answer(alloc, text.as_str(), Print::Tree)?;
-        assert_eq!(rt; found.as_str(), tree, "{line}");
+        let found = tree_of(alloc, start, line, end)?;
+        agree(rt, line, found.as_str(), tree);
     }
     Ok(())
 }
@@ -375,14 +381,18 @@ fn trees(rt: HostRuntime) -> Result<(), Fail> {
     expect_rows(&rt, rt.alloc(), PREDICATES, "assert rng ", "")
 }
 
+// The kind of a line that is the only one before `end`.
+fn kind_of(alloc: Global, line: &str) -> Result<String, AllocError> {
+    let text = format!(in alloc; "{line}\nend")?;
+    answer(alloc, text.as_str(), Print::Kind)
+}
+
 #[test]
 fn lines_of_every_kind(rt: HostRuntime) -> Result<(), Fail> {
-    let alloc = rt.alloc();
     for row in LINES.lines() {
         let (line, kind) = row.split_once(" -> ").ok_or("no kind")?;
-        let text = format!(in alloc; "{line}\nend")?;
-        let found = answer(alloc, text.as_str(), Print::Kind)?;
-        assert_eq!(&rt; found.as_str(), kind, "{line}");
+        let found = kind_of(rt.alloc(), line)?;
+        agree(&rt, line, found.as_str(), kind);
     }
     Ok(())
 }
@@ -397,9 +407,13 @@ fn chain(alloc: Global, start: &str, part: &str, end: &str) -> Result<String, Al
     Ok(line)
 }
 
+fn kind_of_chain(alloc: Global, start: &str, part: &str, end: &str) -> Result<String, AllocError> {
+    let line = chain(alloc, start, part, end)?;
+    kind_of(alloc, line.as_str())
+}
+
 #[test]
 fn as_many_operators_as_a_line_has(rt: HostRuntime) -> Result<(), Fail> {
-    let alloc = rt.alloc();
     let table: &[(&str, &str, &str, &str)] = &[
         ("assert alg a", " + a", " = b", "assert equation"),
         ("assert alg a", " * a", " = b", "assert equation"),
@@ -412,10 +426,8 @@ fn as_many_operators_as_a_line_has(rt: HostRuntime) -> Result<(), Fail> {
         ("assert rng a", " * a", " < b", "assert range"),
     ];
     for (start, part, end, kind) in table {
-        let line = chain(alloc, *start, *part, *end)?;
-        let text = format!(in alloc; "{line}\nend")?;
-        let found = answer(alloc, text.as_str(), Print::Kind)?;
-        assert_eq!(&rt; found.as_str(), *kind, "{part}");
+        let found = kind_of_chain(rt.alloc(), start, part, end)?;
+        agree(&rt, part, found.as_str(), kind);
     }
     Ok(())
 }
@@ -437,10 +449,14 @@ fn long_line(alloc: Global, brackets: u32, stars: u32, end: &str) -> Result<Stri
     Ok(line)
 }
 
+fn kind_of_long(alloc: Global, brackets: u32, stars: u32, end: &str) -> Result<String, AllocError> {
+    let text = long_line(alloc, brackets, stars, end)?;
+    answer(alloc, text.as_str(), Print::Kind)
+}
+
 // A line with a sign too many is no line, unless it is beyond a limit.
 #[test]
 fn limits_in_their_order(rt: HostRuntime) -> Result<(), Fail> {
-    let alloc = rt.alloc();
     let table: &[(u32, u32, &str, &str)] = &[
         (64, 4096, "assert equation", "text"),
         (65, 4096, "nesting", "nesting"),
@@ -448,12 +464,10 @@ fn limits_in_their_order(rt: HostRuntime) -> Result<(), Fail> {
         (65, 4097, "nesting", "nesting"),
     ];
     for (brackets, stars, kind, worse) in table {
-        let text = long_line(alloc, *brackets, *stars, " = b\nend")?;
-        let found = answer(alloc, text.as_str(), Print::Kind)?;
-        assert_eq!(&rt; found.as_str(), *kind, "{brackets} brackets, {stars} stars");
-        let text = long_line(alloc, *brackets, *stars, " = b =\nend")?;
-        let found = answer(alloc, text.as_str(), Print::Kind)?;
-        assert_eq!(&rt; found.as_str(), *worse, "the same and a sign");
+        let found = kind_of_long(rt.alloc(), *brackets, *stars, " = b\nend")?;
+        agree(&rt, "brackets and stars", found.as_str(), kind);
+        let found = kind_of_long(rt.alloc(), *brackets, *stars, " = b =\nend")?;
+        agree(&rt, "the same and a sign", found.as_str(), worse);
     }
     Ok(())
 }

@@ -6,6 +6,7 @@ mod predicates;
 mod programs;
 mod runs;
 
+use crate::expected::agree;
 use std::alloc::{AllocError, Global};
 use std::process::Abort;
 use std::test::Fail;
@@ -58,49 +59,59 @@ fn last_reason(types: &Types, parsed: &Parsed) -> &'static str {
     }
 }
 
+// The last line's reason by its types, and the outcome of its text.
+fn reasons_of(alloc: Global, types: &Types, line: &str) -> Result<(&'static str, String), Fail> {
+    let text = format!(in alloc; "{}{line}\nend", instructions::NAMES)?;
+    let parsed = parse(alloc, text.as_bytes())?;
+    let reason = last_reason(types, &parsed);
+    Ok((reason, outcome(alloc, parsed)?))
+}
+
 // The row is a reason and a line, which stands in line 15 of a text behind the names.
 fn expect_row(rt: &impl Abort, alloc: Global, types: &Types, row: &str) -> Result<(), Fail> {
     let (reason, line) = row.split_once(": ").ok_or("no reason")?;
-    let text = format!(in alloc; "{}{line}\nend", instructions::NAMES)?;
-    let parsed = parse(alloc, text.as_bytes())?;
-    assert_eq!(rt; last_reason(types, &parsed), reason, "{line}");
-    let found = outcome(alloc, parsed)?;
-    let found = found.strip_prefix("15 ").unwrap_or(found.as_str());
-    assert_eq!(rt; found, reason, "{line}");
+    let (last, found) = reasons_of(alloc, types, line)?;
+    agree(rt, line, last, reason);
+    let word = found.as_str();
+    agree(rt, line, word.strip_prefix("15 ").unwrap_or(word), reason);
     Ok(())
 }
 
+const TABLES: &[&str] = &[
+    instructions::INPUTS,
+    instructions::COPIES,
+    instructions::SUMS,
+    instructions::PRODUCTS,
+    instructions::PARTS,
+    instructions::CHOICES,
+    predicates::EQUATIONS,
+    predicates::WORDS,
+];
+
 #[test]
 fn reasons_of_lines(rt: HostRuntime) -> Result<(), Fail> {
-    let alloc = rt.alloc();
-    let types = types_of_names(alloc)?;
-    for rows in [
-        instructions::INPUTS,
-        instructions::COPIES,
-        instructions::SUMS,
-        instructions::PRODUCTS,
-        instructions::PARTS,
-        instructions::CHOICES,
-        predicates::EQUATIONS,
-        predicates::WORDS,
-    ] {
+    let types = types_of_names(rt.alloc())?;
+    for rows in TABLES {
         for row in rows.lines() {
-            expect_row(&rt, alloc, &types, row)?;
+            expect_row(&rt, rt.alloc(), &types, row)?;
         }
     }
     Ok(())
 }
 
+fn outcome_of_text(alloc: Global, text: &str) -> Result<String, Fail> {
+    outcome(alloc, parse(alloc, text.as_bytes())?)
+}
+
 // An empty line counts, and says nothing.
 #[test]
 fn outcomes_of_programs(rt: HostRuntime) -> Result<(), Fail> {
-    let alloc = rt.alloc();
-    let mut text = String::new(alloc);
+    let mut text = String::new(rt.alloc());
     for row in programs::PROGRAMS.lines() {
         if let Some(expected) = row.strip_prefix("end: ") {
             text.push_str("end")?;
-            let found = outcome(alloc, parse(alloc, text.as_bytes())?)?;
-            assert_eq!(&rt; found.as_str(), expected, "{text}");
+            let found = outcome_of_text(rt.alloc(), text.as_str())?;
+            agree(&rt, text.as_str(), found.as_str(), expected);
             text.clear();
         } else {
             write!(&mut text, "{row}\n")?;
@@ -142,18 +153,33 @@ fn long_text(alloc: Global) -> Result<String, AllocError> {
     Ok(text)
 }
 
-#[test]
-fn programs_at_the_limits(rt: HostRuntime) -> Result<(), Fail> {
-    let alloc = rt.alloc();
+// The same with these lines.
+fn long_text_with(alloc: Global, lines: &str) -> Result<String, AllocError> {
     let mut text = long_text(alloc)?;
-    text.push_str("end")?;
-    let found = outcome(alloc, parse(alloc, text.as_bytes())?)?;
-    assert_eq!(&rt; found.as_str(), "fine");
-    let mut text = long_text(alloc)?;
-    text.push_str("assert rng ")?;
+    text.push_str(lines)?;
+    Ok(text)
+}
+
+// The same with a sum that has another type than the number.
+fn long_text_of_two_types(alloc: Global) -> Result<String, AllocError> {
+    let mut text = long_text_with(alloc, "assert rng ")?;
     push_sum(&mut text)?;
     text.push_str(" = 0@u1\nend")?;
-    let found = outcome(alloc, parse(alloc, text.as_bytes())?)?;
-    assert_eq!(&rt; found.as_str(), "8217 mismatch");
+    Ok(text)
+}
+
+#[test]
+fn programs_at_the_limits(rt: HostRuntime) -> Result<(), Fail> {
+    let text = long_text_with(rt.alloc(), "end")?;
+    let found = outcome_of_text(rt.alloc(), text.as_str())?;
+    agree(&rt, "the longest", found.as_str(), "fine");
+    Ok(())
+}
+
+#[test]
+fn two_types_at_the_limits(rt: HostRuntime) -> Result<(), Fail> {
+    let text = long_text_of_two_types(rt.alloc())?;
+    let found = outcome_of_text(rt.alloc(), text.as_str())?;
+    agree(&rt, "the last line", found.as_str(), "8217 mismatch");
     Ok(())
 }

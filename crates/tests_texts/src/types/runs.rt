@@ -4,8 +4,8 @@ ghost use Rattle.std.specs.Prelude.{◌≡◌, length, IfOk, IsTrue};
 ghost use Rattle.tcl_lang.specs.Run.{Fits, taken_types};
 
 use super::programs::RUNS;
+use crate::expected::agree;
 use std::alloc::{AllocError, Global};
-use std::process::Abort;
 use std::test::Fail;
 use tcl_lang::{Line, Typed, Word, in_type, run, well_typed_programs_run};
 use tcl_parse::parse;
@@ -80,7 +80,7 @@ fn redefinitions(rt: HostRuntime) -> Result<(), Fail> {
             let (input, expected) = rest.split_once(": ").ok_or("no outcome")?;
             text.push_str("end")?;
             let found = outcome(alloc, text.as_str(), input)?;
-            assert_eq!(&rt; found.as_str(), expected, "{row}");
+            agree(&rt, row, found.as_str(), expected);
             text.clear();
         } else {
             write!(&mut text, "{row}\n")?;
