@@ -1,8 +1,8 @@
 // The inputs of models of whole facts. The reference, a second implementation of the language, gave the inputs; the bits are any.
 
+use crate::expected::holds;
 use crate::forms::form_of_text;
 use std::alloc::{AllocError, Global};
-use std::process::Abort;
 use std::test::Fail;
 use tcl_blast::input_of;
 use tcl_cnf::Bits;
@@ -19,7 +19,7 @@ const PROGRAMS: &[&str] = &[
 ];
 
 // A program, a goal, the bits from variable 0 on, and the values of the input.
-const ROWS: &[(usize, u32, &str, &[i128])] = &[
+const ROWS: &[Row] = &[
     (0, 0, "101000100", &[2, 0, 2, 0]),
     (0, 0, "10011000", &[-4, 0, 0, 0]),
     (0, 1, "10001000011001000", &[-8, 0, 0, 19]),
@@ -78,18 +78,25 @@ fn whole_of(alloc: Global, form: &Ssa, goal: u32) -> Result<Fact, Fail> {
     }
 }
 
+type Row = (usize, u32, &'static str, &'static [i128]);
+
+fn has_values(alloc: Global, form: &Ssa, fact: &Fact, row: &Row) -> Result<bool, AllocError> {
+    let bits = bits_of(alloc, row.2)?;
+    let input = input_of(alloc, form, fact, &Lemmas::new(alloc), &bits)?;
+    Ok(input.as_slice() == row.3)
+}
+
+fn is_right(alloc: Global, row: &Row) -> Result<bool, Fail> {
+    let form = form_of_text(alloc, text_of(row.0))?;
+    let fact = whole_of(alloc, &form, row.1)?;
+    Ok(has_values(alloc, &form, &fact, row)?)
+}
+
 #[test]
 fn inputs(rt: HostRuntime) -> Result<(), Fail> {
-    let alloc = rt.alloc();
-    for (program, goal, digits, values) in ROWS {
-        let form = form_of_text(alloc, text_of(*program))?;
-        let fact = whole_of(alloc, &form, *goal)?;
-        let bits = bits_of(alloc, digits)?;
-        let input = input_of(alloc, &form, &fact, &Lemmas::new(alloc), &bits)?;
-        assert!(&rt;
-            input.as_slice() == *values,
-            "goal {goal} of program {program}"
-        );
+    for row in ROWS {
+        let is_right = is_right(rt.alloc(), row)?;
+        holds(&rt, row.2, is_right);
     }
     Ok(())
 }

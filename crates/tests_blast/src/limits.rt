@@ -1,6 +1,7 @@
 // Counts of clauses, and facts of too many. The reference, a second implementation, made the counts of the table, and those
 // that the parts of the long programs add.
 
+use crate::expected::holds;
 use crate::facts::{clauses_of, whole_fact};
 use crate::forms::form_of_text;
 use std::alloc::{AllocError, Global};
@@ -68,45 +69,46 @@ fn long_program(alloc: Global, factors: u32, sums: u32, others: u32) -> Result<S
     Ok(text)
 }
 
+fn expect_count(rt: &impl Abort, program: &str, found: Result<usize, u32>, wanted: usize) {
+    assert!(rt; found == Ok(wanted), "{wanted} clauses of {program}");
+}
+
 #[test]
 fn counts_of_clauses(rt: HostRuntime) -> Result<(), Fail> {
-    let alloc = rt.alloc();
     for (program, goal, count) in COUNTS {
-        match count_of(alloc, program, *goal)? {
-            Ok(found) => assert!(&rt; found == *count, "goal {goal} of {program}: {found}"),
-            Err(many) => assert!(&rt; false, "{many} clauses"),
-        }
+        let found = count_of(rt.alloc(), program, *goal)?;
+        expect_count(&rt, program, found, *count);
     }
     Ok(())
+}
+
+fn count_of_long(
+    alloc: Global,
+    factors: u32,
+    sums: u32,
+    others: u32,
+) -> Result<Result<usize, u32>, Fail> {
+    let program = long_program(alloc, factors, sums, others)?;
+    count_of(alloc, program.as_str(), 0)
 }
 
 #[test]
 fn as_many_clauses_as_there_may_be(rt: HostRuntime) -> Result<(), Fail> {
-    let alloc = rt.alloc();
-    let program = long_program(alloc, 122, 19, 587)?;
-    match count_of(alloc, &program, 0)? {
-        Ok(found) => assert!(&rt; found == 4_194_304, "{found} clauses"),
-        Err(many) => assert!(&rt; false, "{many} clauses"),
-    }
-    Ok(())
-}
-
-fn expect_too_many(rt: &impl Abort, alloc: Global, program: &str) -> Result<(), Fail> {
-    match count_of(alloc, program, 0)? {
-        Ok(found) => assert!(rt; false, "{found} clauses"),
-        Err(many) => assert!(rt; many == 4_194_305, "{many} clauses"),
-    }
+    let found = count_of_long(rt.alloc(), 122, 19, 587)?;
+    expect_count(&rt, "the longest", found, 4_194_304);
     Ok(())
 }
 
 #[test]
 fn one_clause_too_many(rt: HostRuntime) -> Result<(), Fail> {
-    let alloc = rt.alloc();
-    expect_too_many(&rt, alloc, &long_program(alloc, 122, 19, 588)?)
+    let found = count_of_long(rt.alloc(), 122, 19, 588)?;
+    holds(&rt, "one clause too many", found == Err(4_194_305));
+    Ok(())
 }
 
 #[test]
 fn far_too_many_clauses(rt: HostRuntime) -> Result<(), Fail> {
-    let alloc = rt.alloc();
-    expect_too_many(&rt, alloc, &long_program(alloc, 4_000, 0, 0)?)
+    let found = count_of_long(rt.alloc(), 4_000, 0, 0)?;
+    holds(&rt, "far too many clauses", found == Err(4_194_305));
+    Ok(())
 }

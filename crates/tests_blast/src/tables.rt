@@ -3,11 +3,11 @@
 ghost use Rattle.std.specs.Prelude.{◌≡◌};
 ghost use Rattle.tcl_goals.specs.LemmaList.{next_number};
 
-use crate::facts::{clauses_of, fact_of, lemma_of, text_of, whole_fact};
+use crate::expected::agree;
+use crate::facts::{Row, clauses_of, fact_of, lemma_of, text_of, whole_fact};
 use crate::forms::{form_of_text, parts_of, program_of};
 use crate::{lifted_rows, part_rows, whole_rows};
 use std::alloc::Global;
-use std::process::Abort;
 use std::test::Fail;
 use tcl_goals::{Claim, Cube, Fact, Hyp, Hyps, Lemmas, Numbered, Uses};
 use tcl_lang::Ssa;
@@ -74,41 +74,52 @@ fn one_line_text(alloc: Global, form: &Ssa, place: u32) -> Result<String, Fail> 
     clauses_text(alloc, form, &fact, &Lemmas::new(alloc))
 }
 
+// The text of the clauses of the whole fact of a row's goal.
+fn row_text(alloc: Global, lines: &str, goal: u32) -> Result<String, Fail> {
+    let program = program_of(alloc, lines)?;
+    whole_text(alloc, program.as_str(), goal)
+}
+
 #[test]
 fn instructions_and_range_lines(rt: HostRuntime) -> Result<(), Fail> {
-    let alloc = rt.alloc();
     for row in whole_rows::ROWS.lines() {
         let (goal, lines, clauses) = parts_of(row)?;
-        let text = whole_text(alloc, &program_of(alloc, lines)?, goal)?;
-        assert!(&rt; text.as_str() == clauses, "goal {goal} of {lines}: {text}");
+        let text = row_text(rt.alloc(), lines, goal)?;
+        agree(&rt, lines, text.as_str(), clauses);
     }
     Ok(())
 }
 
 #[test]
 fn equations_fix_bits(rt: HostRuntime) -> Result<(), Fail> {
-    let alloc = rt.alloc();
-    let form = form_of_text(alloc, lifted_rows::PROGRAM)?;
-    let all = whole_text(alloc, lifted_rows::PROGRAM, 0)?;
-    assert!(&rt; all.as_str() == lifted_rows::ALL, "all equations: {all}");
-    for (place, clauses) in lifted_rows::ROWS {
-        let text = one_line_text(alloc, &form, *place)?;
-        assert!(&rt;
-            text.as_str() == *clauses,
-            "the equation at {place}: {text}"
-        );
-    }
+    let all = whole_text(rt.alloc(), lifted_rows::PROGRAM, 0)?;
+    agree(&rt, "all equations", all.as_str(), lifted_rows::ALL);
     Ok(())
 }
 
 #[test]
+fn equations_alone_fix_bits(rt: HostRuntime) -> Result<(), Fail> {
+    let form = form_of_text(rt.alloc(), lifted_rows::PROGRAM)?;
+    for (place, clauses) in lifted_rows::ROWS {
+        let text = one_line_text(rt.alloc(), &form, *place)?;
+        agree(&rt, "an equation", text.as_str(), clauses);
+    }
+    Ok(())
+}
+
+// The text of the clauses of a row's fact.
+fn fact_text(alloc: Global, form: &Ssa, row: &Row, lemmas: &Lemmas) -> Result<String, Fail> {
+    let fact = fact_of(alloc, row)?;
+    clauses_text(alloc, form, &fact, lemmas)
+}
+
+#[test]
 fn parts_stand_in_their_order(rt: HostRuntime) -> Result<(), Fail> {
-    let alloc = rt.alloc();
-    let form = form_of_text(alloc, part_rows::PROGRAM)?;
-    let lemmas = lemmas_of(alloc)?;
+    let form = form_of_text(rt.alloc(), part_rows::PROGRAM)?;
+    let lemmas = lemmas_of(rt.alloc())?;
     for row in part_rows::ROWS {
-        let text = clauses_text(alloc, &form, &fact_of(alloc, row)?, &lemmas)?;
-        assert!(&rt; text.as_str() == row.clauses, "{text}");
+        let text = fact_text(rt.alloc(), &form, row, &lemmas)?;
+        agree(&rt, "a fact", text.as_str(), row.clauses);
     }
     Ok(())
 }

@@ -1,11 +1,11 @@
 // Narrow facts: an assignment of the free bits, given as a cube, meets the clauses exactly where the walk through all
 // assignments finds that it denies the claim and meets the hypotheses.
 
+use crate::expected::holds;
 use crate::facts::{clauses_of, is_in_order, whole_fact};
 use crate::forms::{form_of_text, parts_of, program_of};
 use crate::whole_rows::ROWS;
 use std::alloc::{AllocError, Global};
-use std::process::Abort;
 use std::test::Fail;
 use tcl_cnf::Cnf;
 use tcl_enum::{Ended, enumerate};
@@ -84,32 +84,36 @@ fn agrees(alloc: Global, form: &Ssa, lemmas: &Lemmas, goal: u32, cube: Cube) -> 
 }
 
 // Whether the first 64 assignments of a goal's free bits agree.
-fn all_agree(alloc: Global, program: &str, goal: u32) -> Result<bool, Fail> {
-    let form = form_of_text(alloc, program)?;
+fn all_agree(alloc: Global, form: &Ssa, goal: u32) -> Result<bool, Fail> {
     let lemmas = Lemmas::new(alloc);
-    let fact = whole_fact(alloc, &form, goal)?;
-    let bits = free_bits(alloc, &form, &lemmas, &fact)?;
-    let count = if bits.len() < 6 {
-        1u32 << bits.len()
-    } else {
-        64
-    };
-    for number in 0..count {
+    let fact = whole_fact(alloc, form, goal)?;
+    let bits = free_bits(alloc, form, &lemmas, &fact)?;
+    for number in 0..count_of(bits.len()) {
         let cube = cube_of(alloc, bits.as_slice(), number)?;
-        if !agrees(alloc, &form, &lemmas, goal, cube)? {
+        if !agrees(alloc, form, &lemmas, goal, cube)? {
             return Ok(false);
         }
     }
     Ok(true)
 }
 
+// How many assignments of so many bits are tried.
+fn count_of(bits: usize) -> u32 {
+    if bits < 6 { 1u32 << bits } else { 64 }
+}
+
+fn row_agrees(alloc: Global, lines: &str, goal: u32) -> Result<bool, Fail> {
+    let program = program_of(alloc, lines)?;
+    let form = form_of_text(alloc, program.as_str())?;
+    all_agree(alloc, &form, goal)
+}
+
 #[test]
 fn assignments_meet_the_clauses_that_they_deny(rt: HostRuntime) -> Result<(), Fail> {
-    let alloc = rt.alloc();
     for row in ROWS.lines() {
         let (goal, lines, _) = parts_of(row)?;
-        let agree = all_agree(alloc, &program_of(alloc, lines)?, goal)?;
-        assert!(&rt; agree, "goal {goal} of {lines}");
+        let agree = row_agrees(rt.alloc(), lines, goal)?;
+        holds(&rt, lines, agree);
     }
     Ok(())
 }
