@@ -86,16 +86,16 @@ fn has_values(alloc: Global, form: &Ssa, fact: &Fact, row: &Row) -> Result<bool,
     Ok(input.as_slice() == row.3)
 }
 
-fn is_right(alloc: Global, row: &Row) -> Result<bool, Fail> {
-    let form = form_of_text(alloc, text_of(row.0))?;
-    let fact = whole_of(alloc, &form, row.1)?;
-    Ok(has_values(alloc, &form, &fact, row)?)
+fn is_right(alloc: Global, form: &Ssa, row: &Row) -> Result<bool, Fail> {
+    let fact = whole_of(alloc, form, row.1)?;
+    Ok(has_values(alloc, form, &fact, row)?)
 }
 
 #[test]
 fn inputs(rt: HostRuntime) -> Result<(), Fail> {
     for row in ROWS {
-        let is_right = is_right(rt.alloc(), row)?;
+        let form = form_of_text(rt.alloc(), text_of(row.0))?;
+        let is_right = is_right(rt.alloc(), &form, row)?;
         holds(&rt, row.2, is_right);
     }
     Ok(())

@@ -7,7 +7,8 @@ use crate::forms::form_of_text;
 use std::alloc::{AllocError, Global};
 use std::process::Abort;
 use std::test::Fail;
-use tcl_goals::Lemmas;
+use tcl_goals::{Fact, Lemmas};
+use tcl_lang::Ssa;
 
 // A program, a goal, and the count of the clauses of its whole fact.
 const COUNTS: &[(&str, u32, usize)] = &[
@@ -40,14 +41,23 @@ const COUNTS: &[(&str, u32, usize)] = &[
     ),
 ];
 
-// The count of the clauses of a goal's whole fact, or that of clauses that are too many.
-fn count_of(alloc: Global, program: &str, goal: u32) -> Result<Result<usize, u32>, Fail> {
-    let form = form_of_text(alloc, program)?;
-    let fact = whole_fact(alloc, &form, goal)?;
-    match clauses_of(alloc, &form, &fact, &Lemmas::new(alloc))? {
+// The count of the clauses of a fact, or that of clauses that are too many.
+fn count_in(alloc: Global, form: &Ssa, fact: &Fact) -> Result<Result<usize, u32>, Fail> {
+    match clauses_of(alloc, form, fact, &Lemmas::new(alloc))? {
         Ok(cnf) => Ok(Ok(cnf.len())),
         Err(count) => Ok(Err(count)),
     }
+}
+
+// The same of a goal's whole fact.
+fn count_at(alloc: Global, form: &Ssa, goal: u32) -> Result<Result<usize, u32>, Fail> {
+    let fact = whole_fact(alloc, form, goal)?;
+    count_in(alloc, form, &fact)
+}
+
+fn count_of(alloc: Global, program: &str, goal: u32) -> Result<Result<usize, u32>, Fail> {
+    let form = form_of_text(alloc, program)?;
+    count_at(alloc, &form, goal)
 }
 
 // A goal of a product of so many factors of 64 bits: 34,914 clauses for two of them, and 34,464 for each further one. Each of

@@ -11,6 +11,7 @@ use tcl_cnf::Cnf;
 use tcl_enum::{Ended, enumerate};
 use tcl_goals::{Bit, BitLit, Cube, Fact, Lemmas, free_bits};
 use tcl_lang::Ssa;
+use tcl_list::Listing;
 use tcl_port::{Poll, Port};
 use tcl_sat::{Found, search};
 
@@ -83,14 +84,31 @@ fn agrees(alloc: Global, form: &Ssa, lemmas: &Lemmas, goal: u32, cube: Cube) -> 
     }
 }
 
+// Whether the assignment of this number agrees.
+fn agrees_at(
+    alloc: Global,
+    form: &Ssa,
+    lemmas: &Lemmas,
+    goal: u32,
+    bits: &[Bit],
+    number: u32,
+) -> Result<bool, Fail> {
+    let cube = cube_of(alloc, bits, number)?;
+    agrees(alloc, form, lemmas, goal, cube)
+}
+
+// The free bits of a goal's whole fact.
+fn bits_of(alloc: Global, form: &Ssa, lemmas: &Lemmas, goal: u32) -> Result<Listing<Bit>, Fail> {
+    let fact = whole_fact(alloc, form, goal)?;
+    Ok(free_bits(alloc, form, lemmas, &fact)?)
+}
+
 // Whether the first 64 assignments of a goal's free bits agree.
 fn all_agree(alloc: Global, form: &Ssa, goal: u32) -> Result<bool, Fail> {
     let lemmas = Lemmas::new(alloc);
-    let fact = whole_fact(alloc, form, goal)?;
-    let bits = free_bits(alloc, form, &lemmas, &fact)?;
+    let bits = bits_of(alloc, form, &lemmas, goal)?;
     for number in 0..count_of(bits.len()) {
-        let cube = cube_of(alloc, bits.as_slice(), number)?;
-        if !agrees(alloc, form, &lemmas, goal, cube)? {
+        if !agrees_at(alloc, form, &lemmas, goal, bits.as_slice(), number)? {
             return Ok(false);
         }
     }
