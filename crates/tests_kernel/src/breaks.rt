@@ -1,10 +1,12 @@
 // Inputs against goals. The reference, a second implementation of the checks, gave the answers.
 
+use crate::expected::agree;
 use crate::forms::{form_of_text, input_of, word_of};
-use std::alloc::Global;
+use std::alloc::{AllocError, Global};
 use std::process::Abort;
 use std::test::Fail;
 use tcl_kernel::check_break;
+use tcl_lang::Ssa;
 
 const TEXT: &str =
     "in u8 x\nin s8 y\npre rng x < 100@u8\nassume rng y <= 50@s8\nassert rng x < 60@u8\nassume alg 2*x = 84 + y\nnondet u4 k\nassert rng k < 15@u4\npost rng x > 41@u8\nend";
@@ -45,30 +47,39 @@ const WIDE_BREAKS: &[(u32, &[i128], &str)] = &[
     (2, &[7], "break"),
 ];
 
+// The word of the answer on an input.
+fn word_on(
+    alloc: Global,
+    form: &Ssa,
+    goal: u32,
+    values: &[i128],
+) -> Result<&'static str, AllocError> {
+    let input = input_of(alloc, values)?;
+    Ok(word_of(&check_break(alloc, form, goal, input)))
+}
+
 fn answers_on_inputs(
     rt: &impl Abort,
     alloc: Global,
-    text: &str,
+    form: &Ssa,
     table: &[(u32, &[i128], &str)],
-) -> Result<(), Fail> {
-    let form = form_of_text(alloc, text)?;
+) -> Result<(), AllocError> {
     for (goal, values, expected) in table {
-        let answer = check_break(alloc, &form, *goal, input_of(alloc, values)?);
-        let word = word_of(&answer);
-        assert!(rt;
-            word == *expected,
-            "goal {goal} at {values:?}: {word}, not {expected}"
-        );
+        agree(rt, *goal, word_on(alloc, form, *goal, values)?, expected);
     }
     Ok(())
 }
 
 #[test]
 fn inputs_that_refute(rt: HostRuntime) -> Result<(), Fail> {
-    answers_on_inputs(&rt, rt.alloc(), TEXT, BREAKS)
+    let form = form_of_text(rt.alloc(), TEXT)?;
+    answers_on_inputs(&rt, rt.alloc(), &form, BREAKS)?;
+    Ok(())
 }
 
 #[test]
 fn inputs_where_a_goal_is_wide(rt: HostRuntime) -> Result<(), Fail> {
-    answers_on_inputs(&rt, rt.alloc(), WIDE_TEXT, WIDE_BREAKS)
+    let form = form_of_text(rt.alloc(), WIDE_TEXT)?;
+    answers_on_inputs(&rt, rt.alloc(), &form, WIDE_BREAKS)?;
+    Ok(())
 }

@@ -1,12 +1,12 @@
 // The first hypotheses that are not computed as true. The reference, a second implementation of the checks, gave the answers.
 
 use crate::forms::{form_of_text, input_of};
-use std::alloc::Global;
+use std::alloc::{AllocError, Global};
 use std::process::Abort;
 use std::test::Fail;
 use tcl_exec::fits;
 use tcl_kernel::{Stray, first_stray};
-use tcl_lang::Truth;
+use tcl_lang::{Ssa, Truth};
 
 // Assumptions and a goal of words, an equation between them, and a choice.
 const WORDS: &str =
@@ -72,38 +72,61 @@ fn word_of_truth(truth: Truth) -> &'static str {
     }
 }
 
+// The place and the truth of the first stray of an input that fits.
+fn stray_of(
+    alloc: Global,
+    form: &Ssa,
+    goal: u32,
+    values: &[i128],
+) -> Result<(u32, &'static str), AllocError> {
+    let input = input_of(alloc, values)?;
+    if !fits(form, &input) {
+        return Ok((0, "an input that does not fit"));
+    }
+    Ok(answer_of(first_stray(alloc, form, goal, &input)?))
+}
+
+fn agree(rt: &impl Abort, goal: u32, made: (u32, &str), wanted: (u32, &str)) {
+    assert!(rt;
+        made.0 == wanted.0 && made.1 == wanted.1,
+        "goal {goal}: {} {}, not {} {}",
+        made.0,
+        made.1,
+        wanted.0,
+        wanted.1
+    );
+}
+
 fn strays_of_inputs(
     rt: &impl Abort,
     alloc: Global,
-    text: &str,
+    form: &Ssa,
     table: &[(u32, &[i128], u32, &str)],
-) -> Result<(), Fail> {
-    let form = form_of_text(alloc, text)?;
+) -> Result<(), AllocError> {
     for (goal, values, place, truth) in table {
-        let input = input_of(alloc, values)?;
-        if !fits(&form, &input) {
-            return Err("an input that does not fit")?;
-        }
-        let (found, word) = answer_of(first_stray(alloc, &form, *goal, &input)?);
-        assert!(rt;
-            found == *place && word == *truth,
-            "goal {goal} at {values:?}: {found} {word}, not {place} {truth}"
-        );
+        let made = stray_of(alloc, form, *goal, values)?;
+        agree(rt, *goal, made, (*place, *truth));
     }
     Ok(())
 }
 
 #[test]
 fn hypotheses_of_words(rt: HostRuntime) -> Result<(), Fail> {
-    strays_of_inputs(&rt, rt.alloc(), WORDS, WORD_STRAYS)
+    let form = form_of_text(rt.alloc(), WORDS)?;
+    strays_of_inputs(&rt, rt.alloc(), &form, WORD_STRAYS)?;
+    Ok(())
 }
 
 #[test]
 fn a_goal_that_is_wide(rt: HostRuntime) -> Result<(), Fail> {
-    strays_of_inputs(&rt, rt.alloc(), WIDE, WIDE_STRAYS)
+    let form = form_of_text(rt.alloc(), WIDE)?;
+    strays_of_inputs(&rt, rt.alloc(), &form, WIDE_STRAYS)?;
+    Ok(())
 }
 
 #[test]
 fn an_assumption_that_is_wide_where_it_is_true(rt: HostRuntime) -> Result<(), Fail> {
-    strays_of_inputs(&rt, rt.alloc(), SQUARES, SQUARE_STRAYS)
+    let form = form_of_text(rt.alloc(), SQUARES)?;
+    strays_of_inputs(&rt, rt.alloc(), &form, SQUARE_STRAYS)?;
+    Ok(())
 }
