@@ -50,5 +50,6 @@ fn word_of_reason(reason: Reason) -> &'static str {
         Reason::LogEnd => "log end",
         Reason::Cofactors => "cofactors",
         Reason::Wide => "wide",
+        Reason::Cases => "cases",
     }
 }
