@@ -33,10 +33,10 @@ abbrev pub beginning : VersionedProgram → Earlier
 beginning p = record { program = p; lemmas = []; facts = [] }
 
 -- a proof of a fact
-pub shown_stands : (p : VersionedProgram) (q : ProofContent) (earlier : Earlier) (fact copy : Fact) → earlier ≡ beginning p → copy ≡ fact → q ≡ proof_of p earlier.lemmas copy → ShownHolds q.program q.cited q.shown → Stands p [] fact
+pub shown_stands : {alone : Bool} (p : VersionedProgram) (q : ProofContent) (earlier : Earlier) (fact copy : Fact) → earlier ≡ beginning p → copy ≡ fact → q ≡ proof_of p earlier.lemmas copy alone → ShownHolds q.program q.cited q.shown → Stands p [] fact
 unfolding ShownHolds cited_lemmas
-shown_stands p q earlier fact copy begins same e holds =
-    let whole : q ≡ proof_of p [] copy = e ∙ ap (λ (x : Earlier). proof_of p x.lemmas copy) begins in
+shown_stands {alone = alone} p q earlier fact copy begins same e holds =
+    let whole : q ≡ proof_of p [] copy alone = e ∙ ap (λ (x : Earlier). proof_of p x.lemmas copy alone) begins in
     subst (λ (f : Fact). Stands p [] f) same (subst (λ (x : ProofContent). ShownHolds x.program x.cited x.shown) whole holds)
 
 -- the kernel's answer, on a copy and on what was shown before
@@ -68,6 +68,7 @@ no_reason p i input (reason.Log k) goal checks bad = bad
 no_reason p i input reason.LogEnd goal checks bad = bad
 no_reason p i input reason.Cofactors goal checks bad = bad
 no_reason p i input reason.Wide goal checks bad = bad
+no_reason p i input reason.Cases goal checks bad = bad
 no_reason p i input reason.Break goal checks bad = bad.1 checks
 
 -- the tests of the certificates: a fact in order has the reasons of its certificate alone

@@ -11,7 +11,8 @@ use tcl_report::program_text;
 fn is_read_copied_and_printed(alloc: Global, text: &[u8]) -> bool {
     match parse(alloc, text) {
         Ok(parsed) => match (parsed.copy_in(alloc), program_text(alloc, parsed.program())) {
-            (Ok(copy), Ok(written)) => copy.program().same(parsed.program()) && written.as_slice() == text,
+            (Ok(copy), Ok(written)) => copy.program().same(parsed.program())
+                && written.as_slice() == text,
             _ => false,
         },
         Err(_) => false,
