@@ -1,0 +1,13 @@
+pub mod Booleans
+pub mod Spending
+pub mod EquationRows
+pub mod Holding
+pub mod Beginnings
+pub mod CofactorTurns
+pub mod Multiples
+pub mod Courses
+pub mod Fits
+pub mod Listings
+pub mod PivotLists
+pub mod Endings
+pub mod KeyLists
