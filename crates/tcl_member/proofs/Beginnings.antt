@@ -1,8 +1,8 @@
 -- What is known of equations before a search, and of the claim.
-use Rattle.std.proofs.Common.{◌≡◌, ◌⊎◌, inl, inr, ℕ, zero, suc, ◌+◌, ◌-◌, ◌<◌, ◌≤◌, refl, sym, ◌∙◌, ap, subst, arith, true, false, List, [], ◌∷◌, length, get_or, ℤ, pos, negsuc, Option, Some, None}
+use Rattle.std.proofs.Common.{◌≡◌, ℕ, zero, suc, ◌+◌, ◌-◌, ◌<◌, ◌≤◌, refl, sym, ◌∙◌, ap, subst, arith, false, List, [], ◌∷◌, length, get_or, ℤ, pos, negsuc, Option, Some, None}
 use Rattle.std.specs.Prelude.{◌==◌, if◌then◌else◌, unsigned_abs, slice_get, slice_index_or}
 use Rattle.std.specs.List.{AllByRecursion}
-use Rattle.tcl_ring.specs.Reduction.{IsReduction, IsModulus, reduced_by, is_wide}
+use Rattle.tcl_ring.specs.Reduction.{IsModulus, reduced_by}
 use Rattle.tcl_ring.proofs.Reductions.{is_reduction}
 use Rattle.tcl_poly.specs.Polynomial.{Polynomial, IsPolynomial, IsOver, terms_of, norm_of, degree_of, coefficient, scaled, number_of}
 use Rattle.tcl_poly.specs.declared.cofactors.Cofactor.{Cofactor}
@@ -12,22 +12,21 @@ use Rattle.tcl_poly.proofs.TermLists.{terms_itself, degree_of_values}
 use Rattle.tcl_reduce.specs.Definitions.{Defined}
 use Rattle.tcl_reduce.specs.Answer.{definitions_of, numbered}
 use Rattle.tcl_reduce.specs.Equated.{Equated, AreShallow, AreEquations}
-use Rattle.tcl_reduce.specs.Reduction.{Definition, Reduced, reduced_of}
-use Rattle.tcl_reduce.specs.Reduction.Reduced.{Done, TooWide, TooLarge}
+use Rattle.tcl_reduce.specs.Reduction.{Definition, reduced_of}
+use Rattle.tcl_reduce.specs.Reduction.Reduced.{Done}
 use Rattle.tcl_reduce.specs.Remainder.{AreDefinitions, BeginsWith, pairs_of}
 use Rattle.tcl_reduce.proofs.Remainders.{reductions_keep}
 use Rattle.tcl_reduce.specs.CofactorSum.{put_cofactor, scaled_cofactors, are_wide}
 use Rattle.tcl_reduce.specs.Multiple.{multiplied}
 use Rattle.tcl_reduce.specs.Row as s
-use Rattle.tcl_reduce.specs.Membership.{Target}
 use Rattle.tcl_pivots.specs.CofactorLists.{equations_of}
-use Rattle.tcl_pivots.specs.RowState.{AreCounted, IsSound}
+use Rattle.tcl_pivots.specs.RowState.{IsSound}
 use Rattle.tcl_pivots.specs.RowLaws.{AreLow}
-use Rattle.tcl_pivots.specs.Held.{Held, AreHeld, AreSound, AreSorted, pivots_shown, rows_shown}
+use Rattle.tcl_pivots.specs.Held.{Held, AreHeld, AreSound, AreSorted, pivots_shown}
 use Rattle.tcl_pivots.specs.Aim.{IsAimed}
 use Rattle.tcl_pivots.proofs.Trying.{IsOverEnd, reduced_over, equation_over}
 use Rattle.tcl_pivots.proofs.CofactorWeights.{equation_values}
-use Rattle.tcl_member.specs.Fit.{AreFit, AreKnown, LeavesRest}
+use Rattle.tcl_member.specs.Fit.{AreFit, AreKnown}
 use Rattle.tcl_member.specs.EquationRow.{AreBefore, AreHeldBy}
 use Rattle.tcl_member.proofs.Spending.{reduced_fit, reduced_below, reduced_shallow}
 use Rattle.tcl_member.proofs.EquationRows.{rise_less, some_counted, row_is_sound}

@@ -1,6 +1,6 @@
 -- One cofactor more of those that are scaled.
 use Rattle.std.proofs.Common.{◌≡◌, ℕ, zero, suc, ◌+◌, ◌*◌, ◌<◌, false, ◌≤◌, refl, sym, ◌∙◌, ap, subst, arith, Bool, ◌||◌, List, [], ◌∷◌, ◌++◌, length, drop, get_or, append_assoc, ℤ, pos, negsuc, Option}
-use Rattle.tcl_ring.specs.Reduction.{reduced_by, is_wide}
+use Rattle.tcl_ring.specs.Reduction.{is_wide}
 use Rattle.tcl_poly.specs.Polynomial.{Term, Polynomial, IsOver, number_of, scaled, terms_of, norm_of, degree_of}
 use Rattle.tcl_poly.specs.declared.cofactors.Cofactor.{Cofactor}
 use Rattle.tcl_poly.specs.Combination.{Terms, equation_at}

@@ -1,10 +1,9 @@
 -- What the answer of a search says.
-use Rattle.std.proofs.Common.{◌≡◌, ℕ, suc, length, ◌+◌, ◌-◌, ◌*◌, ◌^◌, ◌<◌, ◌≤◌, refl, sym, ◌∙◌, ap, subst, arith, Bool, false, List, [], ◌∷◌, ℤ, Option, Some, None}
+use Rattle.std.proofs.Common.{◌≡◌, ℕ, suc, length, ◌-◌, ◌*◌, ◌^◌, ◌<◌, ◌≤◌, refl, sym, ◌∙◌, ap, subst, arith, false, List, [], ◌∷◌, ℤ, Option}
 use Rattle.tcl_ring.specs.Reduction.{reduced_by, is_wide}
 use Rattle.tcl_poly.specs.Polynomial.{Polynomial, IsPolynomial, norm_of, terms_of, sum_of, product_of}
 use Rattle.tcl_poly.proofs.TermLists.{terms_itself, degree_of_values}
 use Rattle.tcl_poly.specs.Combination.{Terms, equation_at, combination_of, AreCofactors}
-use Rattle.tcl_poly.specs.declared.cofactors.Cofactor.{Cofactor}
 use Rattle.tcl_reduce.specs.Answer.{numbered}
 use Rattle.tcl_reduce.specs.Remainder.{pairs_of, RiseFrom, IsRemainder}
 use Rattle.tcl_pivots.specs.CofactorLists.{equations_of}

@@ -1,5 +1,5 @@
 -- The row of an equation is the sum of its cofactors times the equations, and is not wide.
-use Rattle.std.proofs.Common.{◌≡◌, ◌⊎◌, inl, inr, ℕ, zero, suc, ◌+◌, ◌*◌, ◌<◌, ◌≤◌, refl, sym, ◌∙◌, ap, subst, arith, Bool, true, false, ◌||◌, leb, List, [], ◌∷◌, ◌++◌, length, ℤ, pos, negsuc, ◌+ℤ◌, ◌*ℤ◌, unsigned_abs, Option, Some, None, Ordering, Less, Equal, Greater}
+use Rattle.std.proofs.Common.{◌≡◌, inl, inr, ℕ, zero, suc, ◌+◌, ◌*◌, ◌<◌, ◌≤◌, refl, sym, ◌∙◌, ap, subst, arith, Bool, true, false, ◌||◌, leb, List, [], ◌∷◌, ◌++◌, length, ℤ, pos, negsuc, ◌+ℤ◌, ◌*ℤ◌, unsigned_abs, Option, Some, None, Ordering, Less, Equal, Greater}
 use Rattle.std.specs.Prelude.{nat_le}
 use Rattle.std.specs.List.{AllByRecursion}
 use Rattle.std.specs.Ordering.{nat_cmp, MatchOrdering}
@@ -9,23 +9,23 @@ use Rattle.std.proofs.Math.Nat.{mul-le-mul_right}
 use Rattle.tcl_num.proofs.IntegerRing.{int_add_zero, int_one_mul}
 use Rattle.tcl_ring.specs.Reduction.{IsReduction, IsModulus, reduced_by, is_wide}
 use Rattle.tcl_ring.proofs.Reductions.{is_reduction}
-use Rattle.tcl_poly.specs.Monomial.{Monomial, IsMonomial, degree, times}
+use Rattle.tcl_poly.specs.Monomial.{Monomial}
 use Rattle.tcl_poly.specs.Polynomial.{Term, Polynomial, IsPolynomial, front, number_of, scaled, weigh, terms_of, norm_of, degree_of}
 use Rattle.tcl_poly.specs.Combination.{equation_at, combination_of, weight_of, AreCofactors}
 use Rattle.tcl_poly.proofs.Weights.{two_sums, right_sum, weigh_sum, weigh_front, reduced_weight}
-use Rattle.tcl_poly.proofs.Canonical.{number_is, scaled_is}
+use Rattle.tcl_poly.proofs.Canonical.{number_is}
 use Rattle.tcl_poly.proofs.Norms.{narrower, norm_scaled}
 use Rattle.tcl_poly.proofs.Degrees.{degree_within, within_degree, within_scaled}
 use Rattle.tcl_poly.proofs.TermLists.{terms_itself}
 use Rattle.tcl_reduce.specs.CofactorSum.{front_cofactor, put_cofactor_at, put_cofactor, scaled_cofactors, is_deep, are_wide}
-use Rattle.tcl_reduce.specs.Reduction.{Definition, Reduced, reduced_of}
+use Rattle.tcl_reduce.specs.Reduction.{Definition, reduced_of}
 use Rattle.tcl_reduce.specs.Reduction.Reduced.{Done}
 use Rattle.tcl_reduce.specs.Remainder.{AreDefinitions, BeginsWith, RiseFrom, IsRemainder}
 use Rattle.tcl_reduce.proofs.Remainders.{reductions_keep}
-use Rattle.tcl_reduce.specs.Row.{Row, row_of}
+use Rattle.tcl_reduce.specs.Row.{row_of}
 use Rattle.tcl_pivots.specs.RowState.{AreCounted, IsSound}
 use Rattle.tcl_pivots.specs.CofactorLists.{AreOrdered}
-use Rattle.tcl_pivots.proofs.Making.{heavy, inner, combination_heavy, put_heavy, scaled_heavy, put_made, scaled_made, AreMade, IsRow}
+use Rattle.tcl_pivots.proofs.Making.{heavy, inner, combination_heavy, put_heavy, scaled_heavy, put_made, scaled_made, IsRow}
 use Rattle.tcl_pivots.proofs.Showing.{fit_made, taken}
 use Rattle.tcl_pivots.proofs.Soundness.{row_sound, fit_ordered, scaled_ordered}
 use Rattle.tcl_member.specs.Fit.{AreSome, AreNarrow}

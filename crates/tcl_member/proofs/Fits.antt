@@ -1,15 +1,13 @@
 -- Whether equations fit, one by one.
-use Rattle.std.proofs.Common.{◌≡◌, ◌⊎◌, inl, inr, ℕ, zero, suc, ◌+◌, ◌^◌, ◌<◌, ◌≤◌, min, refl, sym, ◌∙◌, ap, subst, arith, Bool, true, false, List, [], ◌∷◌, length, get_or, ℤ, Option, Some, None}
+use Rattle.std.proofs.Common.{◌≡◌, ℕ, zero, suc, ◌^◌, ◌<◌, ◌≤◌, min, sym, ◌∙◌, ap, arith, Bool, true, false, List, [], ◌∷◌, length, get_or, ℤ, Option, None}
 use Rattle.tcl_ring.specs.Reduction.{is_wide}
-use Rattle.tcl_poly.specs.Monomial.{Monomial}
-use Rattle.tcl_poly.specs.Polynomial.{Polynomial, terms_of, norm_of}
-use Rattle.tcl_poly.specs.Combination.{Terms, equation_at}
+use Rattle.tcl_poly.specs.Polynomial.{terms_of, norm_of}
+use Rattle.tcl_poly.specs.Combination.{Terms}
 use Rattle.tcl_poly.proofs.Norms.{wide_saturated}
 use Rattle.tcl_pivots.specs.CofactorLists.{equations_of}
 use Rattle.tcl_pivots.proofs.CofactorWeights.{equation_values}
 use Rattle.tcl_member.specs.Fit.{AreNarrow, AreSome}
 use Rattle.tcl_member.proofs.Booleans.{true_not_false}
-use Rattle.tcl_member.proofs.PivotLists.{some_raw}
 use Rattle.tcl_member.proofs.Beginnings.{some_terms}
 
 narrow_read : {E : Type 0} (m : Option ℕ) (value : E → ℤ) (es : List (Terms E)) (k : ℕ) (e : Terms E) → e ≡ get_or es k e → k < length es → AreNarrow m (equations_of value es) → is_wide m (norm_of (terms_of value e)) ≡ false

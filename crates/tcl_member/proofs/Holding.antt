@@ -1,5 +1,5 @@
 -- The cofactors of what is sound can be held: over the integers each norm is at most the sum of the products of the norms.
-use Rattle.std.proofs.Common.{◌≡◌, ℕ, zero, suc, ◌+◌, ◌*◌, ◌<◌, ◌≤◌, refl, sym, ◌∙◌, ap, subst, arith, Bool, true, false, ◌||◌, List, [], ◌∷◌, length, get_or, ℤ, pos, negsuc, ◌*ℤ◌, unsigned_abs, Option, Some, None}
+use Rattle.std.proofs.Common.{◌≡◌, ℕ, zero, suc, ◌+◌, ◌*◌, ◌<◌, ◌≤◌, refl, sym, ◌∙◌, ap, subst, arith, Bool, true, false, ◌||◌, List, [], ◌∷◌, length, get_or, ℤ, pos, ◌*ℤ◌, unsigned_abs, Option, Some, None}
 use Rattle.std.specs.List.{AllByRecursion}
 use Rattle.std.specs.Prelude.{nat_le}
 use Rattle.std.proofs.lemmas.Int.{ints}
@@ -7,10 +7,9 @@ use Rattle.std.proofs.lemmas.Bool.Decides.{nat_tests}
 use Rattle.std.proofs.Math.Nat.{mul-le-mul_left}
 use Rattle.tcl_num.proofs.IntegerOrder.{unsigned_abs_zero}
 use Rattle.tcl_num.proofs.IntegerRing.{int_one_mul}
-use Rattle.tcl_ring.specs.Reduction.{IsReduction, IsModulus, reduced_by, is_wide}
-use Rattle.tcl_ring.proofs.Reductions.{is_reduction}
+use Rattle.tcl_ring.specs.Reduction.{IsReduction, reduced_by, is_wide}
 use Rattle.tcl_poly.specs.Monomial.{Monomial, IsMonomial, degree}
-use Rattle.tcl_poly.specs.Polynomial.{Term, Polynomial, IsPolynomial, IsOver, scaled, sum_of, product_of, terms_of, norm_of, degree_of}
+use Rattle.tcl_poly.specs.Polynomial.{Polynomial, IsPolynomial, IsOver, scaled, product_of, terms_of, norm_of, degree_of}
 use Rattle.tcl_poly.specs.Combination.{Terms, equation_at, weight_of, AreCofactors}
 use Rattle.tcl_poly.proofs.Weights.{reduced_weight}
 use Rattle.tcl_poly.proofs.Canonical.{scaled_is}

@@ -2,10 +2,10 @@
 use Rattle.std.proofs.Common.{◌≡◌, ℕ, zero, suc, ◌+◌, ◌-◌, ◌<◌, ◌≤◌, refl, sym, ◌∙◌, ap, subst, arith, Bool, true, false, List, [], ◌∷◌, ◌++◌, map, length, take, drop, get_or, drop-cons, append_assoc}
 use Rattle.std.specs.Prelude.{if◌then◌else◌, nat_le}
 use Rattle.std.proofs.lemmas.Bool.Decides.{nat_tests}
-use Rattle.tcl_poly.specs.Monomial.{Monomial, IsMonomial, IsMonomialFrom, degree}
+use Rattle.tcl_poly.specs.Monomial.{Monomial, IsMonomialFrom, degree}
 use Rattle.tcl_poly.specs.Polynomial.{degree_of}
 use Rattle.tcl_reduce.specs.Row.{Pivot}
-use Rattle.tcl_reduce.specs.Multiple.{Multiple, with_power, powers_below, monomials_over, multiples_at, multiples_to}
+use Rattle.tcl_reduce.specs.Multiple.{with_power, powers_below, monomials_over, multiples_at, multiples_to}
 use Rattle.tcl_member.specs.Course.{products_by, IsLater, AreKeys}
 
 -- a list and one that begins with it

@@ -1,17 +1,15 @@
 -- The product of a sound row with a monomial is sound, unless its degrees are too great.
-use Rattle.std.proofs.Common.{◌≡◌, ℕ, zero, suc, ◌+◌, ◌*◌, ◌<◌, ◌≤◌, refl, sym, ◌∙◌, ap, subst, arith, Bool, true, false, ◌||◌, leb, List, [], ◌∷◌, ◌++◌, length, ℤ, pos, negsuc, ◌*ℤ◌, unsigned_abs, Option, Some, None}
+use Rattle.std.proofs.Common.{◌≡◌, ℕ, zero, suc, ◌+◌, ◌≤◌, refl, ◌∙◌, ap, subst, arith, true, false, ◌||◌, List, [], ◌∷◌, length, ℤ, pos, negsuc, ◌*ℤ◌, Option, Some, None}
 use Rattle.std.specs.Prelude.{nat_le}
 use Rattle.std.specs.List.{AllByRecursion}
 use Rattle.tcl_num.proofs.IntegerRing.{int_one_mul}
-use Rattle.tcl_ring.specs.Reduction.{IsReduction, IsModulus, reduced_by, is_wide}
-use Rattle.tcl_ring.proofs.Reductions.{is_reduction}
+use Rattle.tcl_ring.specs.Reduction.{IsReduction, reduced_by, is_wide}
 use Rattle.tcl_poly.specs.Monomial.{Monomial, IsMonomial, degree, times}
-use Rattle.tcl_poly.specs.Polynomial.{Term, Polynomial, IsPolynomial, front, scaled, sum_of, product_of, terms_of, norm_of, degree_of}
+use Rattle.tcl_poly.specs.Polynomial.{Term, Polynomial, IsPolynomial, front, scaled, degree_of}
 use Rattle.tcl_poly.specs.Combination.{equation_at, weight_of, AreCofactors}
 use Rattle.tcl_poly.proofs.MonomialLaws.{times_degree}
 use Rattle.tcl_poly.proofs.Weights.{reduced_weight}
 use Rattle.tcl_poly.proofs.Canonical.{scaled_is}
-use Rattle.tcl_poly.proofs.RingLaws.{sum_nothing}
 use Rattle.tcl_poly.proofs.Norms.{narrower}
 use Rattle.tcl_poly.proofs.TermLists.{terms_itself}
 use Rattle.tcl_reduce.specs.CofactorSum.{front_cofactor, scaled_cofactors, is_deep, are_wide}

@@ -1,15 +1,14 @@
 -- Kept rows by their places.
-use Rattle.std.proofs.Common.{◌≡◌, ℕ, zero, suc, ◌+◌, ◌<◌, ◌≤◌, refl, sym, ◌∙◌, ap, subst, arith, List, [], ◌∷◌, length, take, get_or, ℤ, Option}
+use Rattle.std.proofs.Common.{◌≡◌, ℕ, zero, suc, ◌<◌, ◌≤◌, refl, sym, ap, subst, arith, List, [], ◌∷◌, length, take, get_or, ℤ, Option}
 use Rattle.std.specs.List.{AllByRecursion}
-use Rattle.tcl_ring.specs.Reduction.{IsModulus, reduced_by}
-use Rattle.tcl_poly.specs.Monomial.{Monomial}
+use Rattle.tcl_ring.specs.Reduction.{reduced_by}
 use Rattle.tcl_poly.specs.Polynomial.{Polynomial, terms_of, coefficient}
 use Rattle.tcl_poly.specs.Combination.{Terms}
 use Rattle.tcl_reduce.specs.Row as s
 use Rattle.tcl_pivots.specs.declared.row.Pivot.{Pivot}
 use Rattle.tcl_pivots.specs.RowState.{pivot_shown, IsSound}
-use Rattle.tcl_pivots.specs.Kept.{IsPivot, AreKept}
-use Rattle.tcl_pivots.specs.Held.{Held, AreHeld, AreSound, pivots_shown}
+use Rattle.tcl_pivots.specs.Kept.{AreKept}
+use Rattle.tcl_pivots.specs.Held.{Held, AreHeld, pivots_shown}
 use Rattle.tcl_member.specs.Course.{AreTried}
 
 pub pivot_read : {R E : Type 0} (value : E → ℤ) (ps : List (Pivot R E)) (i : ℕ) (x : Pivot R E) → x ≡ get_or ps i x → i < length ps → pivot_shown value x ≡ get_or (pivots_shown value ps) i (pivot_shown value x)

@@ -1,8 +1,8 @@
 -- Over the integers the norm of a polynomial and the sum of the products of the norms of what plain reduction gives are
 -- together at most what it spent.
-use Rattle.std.proofs.Common.{◌≡◌, ◌⊎◌, inl, inr, ℕ, zero, suc, ◌+◌, ◌*◌, ◌<◌, ◌≤◌, refl, sym, ◌∙◌, ap, subst, arith, Bool, true, false, leb, List, [], ◌∷◌, length, le_refl, ℤ, Option, Some, None}
+use Rattle.std.proofs.Common.{◌≡◌, ◌⊎◌, inl, inr, ℕ, zero, suc, ◌+◌, ◌*◌, ◌<◌, ◌≤◌, refl, sym, ◌∙◌, ap, subst, arith, Bool, true, false, leb, List, [], ◌∷◌, length, le_refl, Option, Some, None}
 use Rattle.std.proofs.Math.Nat.{mul-le-mul_left}
-use Rattle.tcl_ring.specs.Reduction.{IsReduction, IsModulus, reduced_by, is_wide}
+use Rattle.tcl_ring.specs.Reduction.{IsModulus, reduced_by, is_wide}
 use Rattle.tcl_ring.proofs.Reductions.{is_reduction}
 use Rattle.tcl_poly.specs.Polynomial.{Polynomial, IsPolynomial, terms_of, norm_of, degree_of}
 use Rattle.tcl_poly.specs.Combination.{equation_at, weight_of}

@@ -1,11 +1,11 @@
 -- How a whole search ends.
-use Rattle.std.specs.Prelude.{◌≡◌, ℕ, List, false, ℤ, Option}
+use Rattle.std.specs.Prelude.{ℕ, List, false, ℤ, Option}
 use Rattle.tcl_poly.specs.Polynomial.{Polynomial, norm_of}
 use Rattle.tcl_poly.specs.Combination.{Terms}
 use Rattle.tcl_reduce.specs.Row.{Rows}
 use Rattle.tcl_pivots.specs.CofactorLists.{equations_of}
 use Rattle.tcl_reduce.specs.Multiple.{multiples_of}
-use Rattle.tcl_reduce.specs.Membership.{Target, Found, stage_of}
+use Rattle.tcl_reduce.specs.Membership.{Found, stage_of}
 use Rattle.tcl_member.specs.Course.{found_from}
 use Rattle.tcl_member.specs.declared.answer.Member.{Member}
 use Rattle.tcl_member.specs.Answer.{IsMember, IsShownBy, IsStopped, IsPolled}

@@ -1,5 +1,5 @@
 -- Each turn adds the row of the next equation.
-use Rattle.std.proofs.Common.{◌≡◌, ◌≤◌, ◌-◌, length, arith, sym, ◌∙◌, ap}
+use Rattle.std.proofs.Common.{◌≡◌, ◌-◌, length, arith, ◌∙◌, ap}
 use Rattle.tcl_reduce.specs.Answer.{definitions_of}
 use Rattle.tcl_reduce.specs.Row as s
 use Rattle.tcl_pivots.specs.CofactorLists.{equations_of}

@@ -1,5 +1,5 @@
 -- The rows of the equations before the number are added.
-use Rattle.std.proofs.Common.{◌≡◌, ◌-◌, ◌≤◌, length}
+use Rattle.std.proofs.Common.{◌≡◌, ◌-◌, length}
 use Rattle.tcl_reduce.specs.Answer.{definitions_of}
 use Rattle.tcl_reduce.specs.Row as s
 use Rattle.tcl_pivots.specs.CofactorLists.{equations_of}

@@ -1,5 +1,5 @@
 -- The row is that of the definition, and sound; where plain reduction leaves nothing, nothing is added.
-use Rattle.std.proofs.Common.{◌≡◌, ◌∙◌, sym, ap, subst, arith}
+use Rattle.std.proofs.Common.{◌∙◌, sym, ap, subst}
 use Rattle.tcl_ring.specs.Reduction as r
 use Rattle.tcl_poly.specs.Polynomial as p
 use Rattle.tcl_reduce.specs.Answer.{definitions_of, numbered}
@@ -7,7 +7,7 @@ use Rattle.tcl_reduce.specs.Remainder.{pairs_of}
 use Rattle.tcl_reduce.specs.Reduction.{reduced_of}
 use Rattle.tcl_reduce.specs.Row as search
 use Rattle.tcl_pivots.specs.CofactorLists.{equations_of}
-use Rattle.tcl_pivots.specs.RowState.{row_shown, IsSound}
+use Rattle.tcl_pivots.specs.RowState.{IsSound}
 use Rattle.tcl_pivots.specs.Held.{rows_shown}
 use Rattle.tcl_pivots.proofs.CofactorTurns.{valued}
 use Rattle.tcl_member.proofs.Holding.{equation_shown}

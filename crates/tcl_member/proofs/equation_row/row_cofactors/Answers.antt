@@ -1,5 +1,5 @@
 -- Each turn adds an opposite, and the equation's own cofactor comes last.
-use Rattle.std.proofs.Common.{[], negsuc, ◌≤◌, ◌∙◌, ap, arith}
+use Rattle.std.proofs.Common.{[], negsuc, ◌∙◌, ap, arith}
 use Rattle.tcl_ring.specs.Reduction as r
 use Rattle.tcl_poly.specs.Polynomial as p
 use Rattle.tcl_reduce.specs.CofactorSum.{scaled_cofactors}

@@ -1,5 +1,5 @@
 -- A norm that is too great.
-use Rattle.std.proofs.Common.{◌≡◌, ◌<◌, ◌≤◌, ◌-◌, length, arith}
+use Rattle.std.proofs.Common.{◌-◌, arith}
 use Rattle.tcl_member.proofs.Booleans.{never}
 use Rattle.tcl_member.proofs.Fits.{not_narrow}
 use Rattle.tcl_member.proofs.fit.are_narrow.Goals as goal

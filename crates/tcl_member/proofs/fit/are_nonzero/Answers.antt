@@ -1,5 +1,5 @@
 -- An equation that is zero, or none.
-use Rattle.std.proofs.Common.{◌≡◌, ◌<◌, ◌≤◌, length, arith, refl}
+use Rattle.std.proofs.Common.{arith, refl}
 use Rattle.tcl_member.proofs.Booleans.{never}
 use Rattle.tcl_member.proofs.Fits.{not_some, all_some}
 use Rattle.tcl_member.proofs.fit.are_nonzero.Goals as goal

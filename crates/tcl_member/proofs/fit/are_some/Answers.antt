@@ -1,5 +1,5 @@
 -- Without a modulus each is looked at.
-use Rattle.std.proofs.Common.{◌≡◌, ◌∙◌, sym, subst}
+use Rattle.std.proofs.Common.{◌∙◌, sym, subst}
 use Rattle.tcl_pivots.specs.CofactorLists.{equations_of}
 use Rattle.tcl_member.specs.Fit.{AreSome}
 use Rattle.tcl_member.proofs.fit.are_some.Goals as goal

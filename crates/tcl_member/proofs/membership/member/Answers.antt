@@ -1,5 +1,5 @@
 -- The equations are known, and so is what plain reduction leaves of the claim.
-use Rattle.std.proofs.Common.{◌≡◌, ◌+◌, ◌≤◌, length, sym, ◌∙◌, ap, subst, arith}
+use Rattle.std.proofs.Common.{◌≡◌, length, sym, ap, subst, arith}
 use Rattle.tcl_poly.specs.Polynomial as p
 use Rattle.tcl_poly.proofs.TermLists.{degree_of_values}
 use Rattle.tcl_reduce.specs.Answer.{definitions_of, numbered}

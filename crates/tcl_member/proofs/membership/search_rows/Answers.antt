@@ -1,5 +1,5 @@
 -- The products are those of copies of the kept rows, over the unknowns that occur.
-use Rattle.std.proofs.Common.{◌≡◌, [], refl, sym, ◌∙◌, ap, subst, length}
+use Rattle.std.proofs.Common.{◌≡◌, [], refl, sym, ◌∙◌, ap, subst}
 use Rattle.tcl_poly.specs.Polynomial as p
 use Rattle.tcl_poly.proofs.TermLists.{degree_of_values}
 use Rattle.tcl_reduce.specs.Answer.{numbered}

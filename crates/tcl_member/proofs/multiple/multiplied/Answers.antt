@@ -1,5 +1,5 @@
 -- The degrees decide; the rest is kept by a monomial.
-use Rattle.std.proofs.Common.{◌≡◌, true, false, ◌≤◌, ◌+◌, length, arith, sym, ◌∙◌, ap, subst}
+use Rattle.std.proofs.Common.{true, false, length, arith, sym, ◌∙◌, ap, subst}
 use Rattle.tcl_ring.specs.Reduction as r
 use Rattle.tcl_ring.proofs.Reductions.{is_reduction}
 use Rattle.tcl_poly.specs.Polynomial as p

@@ -1,11 +1,11 @@
 -- Each turn adds a product.
-use Rattle.std.proofs.Common.{◌≤◌, pos, arith, ap, subst, ◌∙◌}
+use Rattle.std.proofs.Common.{pos, arith, subst, ◌∙◌}
 use Rattle.tcl_ring.specs.Reduction as r
 use Rattle.tcl_ring.proofs.Reductions.{is_reduction}
 use Rattle.tcl_poly.specs.Polynomial as p
 use Rattle.tcl_reduce.specs.CofactorSum.{scaled_cofactors}
 use Rattle.tcl_pivots.proofs.CofactorTurns.{valued}
-use Rattle.tcl_member.proofs.CofactorTurns.{scaled_turn, scaled_end, multiplied_at}
+use Rattle.tcl_member.proofs.CofactorTurns.{scaled_turn, multiplied_at}
 use Rattle.tcl_member.proofs.Holding.{factor_product}
 use Rattle.tcl_member.proofs.multiple.multiplied_cofactors.Goals as goal
 

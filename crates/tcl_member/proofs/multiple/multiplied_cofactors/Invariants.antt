@@ -1,5 +1,5 @@
 -- The products so far and those of what is left are the products of all.
-use Rattle.std.proofs.Common.{◌≡◌, ◌++◌, [], drop, pos}
+use Rattle.std.proofs.Common.{◌≡◌, ◌++◌, drop, pos}
 use Rattle.tcl_ring.specs.Reduction.{reduced_by}
 use Rattle.tcl_poly.specs.Monomial.{Monomial}
 use Rattle.tcl_reduce.specs.CofactorSum.{scaled_cofactors}

@@ -1,5 +1,5 @@
 -- Each turn adds the factor before.
-use Rattle.std.proofs.Common.{◌≡◌, ◌+◌, ◌-◌, ◌<◌, length, drop, ◌∙◌, ap, arith}
+use Rattle.std.proofs.Common.{◌≡◌, ◌+◌, ◌-◌, drop, ◌∙◌, ap, arith}
 use Rattle.tcl_poly.specs.Unknown.{factor_of}
 use Rattle.tcl_reduce.specs.Multiple.{keys_of}
 use Rattle.tcl_member.specs.Course.{keys_in}

@@ -1,7 +1,6 @@
 -- The place is where the key is or comes.
-use Rattle.std.proofs.Common.{◌≡◌, ◌⊎◌, inl, inr, ℕ, ◌+◌, ◌<◌, ◌≤◌, List, length, get_or, arith, sym, ◌∙◌, ap, subst}
+use Rattle.std.proofs.Common.{◌<◌, length, get_or, arith, sym, ◌∙◌}
 use Rattle.tcl_poly.specs.Unknown.{key_of}
-use Rattle.tcl_reduce.specs.Multiple.{insert_key}
 use Rattle.tcl_member.specs.Course.{keys_in}
 use Rattle.tcl_member.proofs.KeyLists.{key_at, keys_count, inserted_there, inserted_new, key_put}
 use Rattle.tcl_member.proofs.unknowns.add_unknown.Goals as goal

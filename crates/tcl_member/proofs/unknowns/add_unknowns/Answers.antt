@@ -1,5 +1,5 @@
 -- Each turn adds the term before.
-use Rattle.std.proofs.Common.{◌≡◌, ◌+◌, ◌-◌, ◌<◌, ◌≤◌, length, drop, ◌∙◌, ap, arith}
+use Rattle.std.proofs.Common.{◌≡◌, ◌+◌, ◌-◌, ◌<◌, length, drop, ◌∙◌, ap, arith}
 use Rattle.tcl_poly.specs.Polynomial.{terms_of}
 use Rattle.tcl_reduce.specs.Multiple.{unknowns_of}
 use Rattle.tcl_member.specs.Course.{keys_in}

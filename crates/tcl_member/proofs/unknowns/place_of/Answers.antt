@@ -1,6 +1,5 @@
 -- Each turn passes an unknown that comes before.
-use Rattle.std.proofs.Common.{◌≡◌, ◌<◌, ◌≤◌, arith}
-use Rattle.std.proofs.lemmas.List.{get_or_default}
+use Rattle.std.proofs.Common.{arith}
 use Rattle.tcl_poly.specs.declared.factor.Unknown.TheVariants.{Var}
 use Rattle.tcl_poly.specs.Unknown.{key_of}
 use Rattle.tcl_member.proofs.KeyLists.{passed_next}

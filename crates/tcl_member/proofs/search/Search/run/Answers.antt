@@ -1,5 +1,5 @@
 -- The products are tried where the rows leave something of the claim.
-use Rattle.std.proofs.Common.{◌≡◌, [], ◌∙◌}
+use Rattle.std.proofs.Common.{◌∙◌}
 use Rattle.tcl_poly.specs.Polynomial as p
 use Rattle.tcl_reduce.specs.Multiple.{multiples_to}
 use Rattle.tcl_pivots.specs.CofactorLists.{equations_of}

@@ -1,5 +1,5 @@
 -- Each turn tries the products of the next row.
-use Rattle.std.proofs.Common.{◌≡◌, ◌+◌, ◌<◌, ◌≤◌, [], ◌∷◌, length, take, get_or, refl, sym, ap, subst, arith, ◌∙◌}
+use Rattle.std.proofs.Common.{◌+◌, [], ◌∷◌, take, refl, sym, subst, arith, ◌∙◌}
 use Rattle.tcl_poly.specs.Polynomial as p
 use Rattle.tcl_pivots.specs.CofactorLists.{equations_of}
 use Rattle.tcl_pivots.specs.RowState.{pivot_shown}
@@ -8,7 +8,7 @@ use Rattle.tcl_reduce.specs.Multiple.{multiples_at}
 use Rattle.tcl_member.specs.declared.search.Turn.TheVariants.{Going}
 use Rattle.tcl_member.specs.Course.{keys_in, IsGone}
 use Rattle.tcl_member.proofs.PivotLists.{pivot_read, pivots_below, pivots_whole, tried_at, some_raw}
-use Rattle.tcl_member.proofs.Courses.{gone_none, gone_next, gone_last, on_err}
+use Rattle.tcl_member.proofs.Courses.{gone_none, gone_next, gone_last}
 use Rattle.tcl_member.proofs.Listings.{rows_next, rows_whole}
 use Rattle.tcl_member.proofs.search.Search.try_degree.Goals as goal
 

@@ -1,5 +1,5 @@
 -- One product was tried.
-use Rattle.std.proofs.Common.{◌≡◌, ◌+◌, ◌-◌, arith}
+use Rattle.std.proofs.Common.{◌+◌, arith}
 use Rattle.tcl_poly.specs.Polynomial as p
 use Rattle.tcl_pivots.specs.CofactorLists.{equations_of}
 use Rattle.tcl_pivots.specs.RowState.{pivot_shown}

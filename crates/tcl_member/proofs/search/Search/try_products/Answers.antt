@@ -1,11 +1,11 @@
 -- Each turn tries the products with monomials of the next degree.
-use Rattle.std.proofs.Common.{◌≡◌, suc, ◌+◌, ◌<◌, refl, sym, ap, subst, arith, ◌∙◌}
+use Rattle.std.proofs.Common.{◌+◌, refl, sym, arith, ◌∙◌}
 use Rattle.tcl_poly.specs.Polynomial as p
 use Rattle.tcl_reduce.specs.Multiple.{multiples_to, multiples_at}
 use Rattle.tcl_pivots.specs.CofactorLists.{equations_of}
 use Rattle.tcl_pivots.specs.Held.{pivots_shown}
 use Rattle.tcl_member.specs.Course.{keys_in}
-use Rattle.tcl_member.proofs.Courses.{gone_none, gone_next, gone_last, on_err}
+use Rattle.tcl_member.proofs.Courses.{gone_none, gone_next, gone_last}
 use Rattle.tcl_member.proofs.Listings.{degrees_next, degrees_whole}
 use Rattle.tcl_member.proofs.search.Search.try_products.Goals as goal
 

@@ -1,5 +1,4 @@
 -- The products with monomials of the degrees so far were tried.
-use Rattle.std.proofs.Common.{◌≤◌}
 use Rattle.tcl_poly.specs.Polynomial as p
 use Rattle.tcl_reduce.specs.Multiple.{multiples_to}
 use Rattle.tcl_pivots.specs.CofactorLists.{equations_of}

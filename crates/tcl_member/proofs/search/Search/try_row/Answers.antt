@@ -1,5 +1,5 @@
 -- The monomials begin with no factor.
-use Rattle.std.proofs.Common.{◌≡◌, ◌+◌, ◌≤◌, ◌∷◌, [], sym, ◌∙◌, ap, subst, arith}
+use Rattle.std.proofs.Common.{◌+◌, ◌≤◌, ◌∙◌, ap, subst, arith}
 use Rattle.std.specs.Prelude.{IfOk}
 use Rattle.tcl_poly.specs.Polynomial as p
 use Rattle.tcl_poly.proofs.TermLists.{degree_of_values}

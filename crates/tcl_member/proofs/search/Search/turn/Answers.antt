@@ -1,5 +1,4 @@
 -- Whether something is left decides, and then the count.
-use Rattle.std.proofs.Common.{◌≡◌}
 use Rattle.tcl_member.proofs.Booleans.{never}
 use Rattle.tcl_member.proofs.Courses.{turn_ends, turn_goes}
 use Rattle.tcl_member.proofs.search.Search.turn.Goals as goal
