@@ -79,7 +79,7 @@ const FACTS: &[(u32, &[u32], &[(u32, u32, bool)], &[u32], bool, &str)] = &[
     (5, &[2, 3, 6], &[], &[4, 10], true, "proof"),
 ];
 
-fn hyps_of(alloc: Global, places: &[u32]) -> Result<Hyps, AllocError> {
+pub(crate) fn hyps_of(alloc: Global, places: &[u32]) -> Result<Hyps, AllocError> {
     let mut hyps = Hyps::new(alloc);
     for place in places {
         hyps.push(Hyp::Line(*place))?;
@@ -99,7 +99,7 @@ fn cube_of(alloc: Global, bits: &[(u32, u32, bool)]) -> Result<Cube, AllocError>
     Ok(cube)
 }
 
-fn uses_of(alloc: Global, places: &[u32]) -> Result<Uses, AllocError> {
+pub(crate) fn uses_of(alloc: Global, places: &[u32]) -> Result<Uses, AllocError> {
     let mut uses = Uses::new(alloc);
     for place in places {
         uses.push(*place)?;

@@ -4,6 +4,8 @@
 #[cfg(test)]
 mod breaks;
 #[cfg(test)]
+mod cases;
+#[cfg(test)]
 mod expected;
 #[cfg(test)]
 mod facts;
