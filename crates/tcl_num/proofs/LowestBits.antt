@@ -1,8 +1,9 @@
 -- The lowest bits of an integer's pattern in two's complement are its remainder from 0 up.
-use Rattle.std.proofs.Common.{◌≡◌, ℕ, ◌+◌, ◌-◌, ◌*◌, ◌%◌, ◌^◌, ◌<◌, ◌≤◌, ◌∙◌, ap, arith, bit_and, ℤ, pos, negsuc, ◌-ℤ◌, to_z, of_z, SFits}
+use Rattle.std.proofs.Common.{suc-mul, ◌≡◌, ℕ, ◌+◌, ◌-◌, ◌*◌, ◌/◌, ◌%◌, ◌^◌, ◌<◌, ◌≤◌, ◌∙◌, ap, arith, bit_and, ℤ, pos, negsuc, ◌-ℤ◌, to_z, of_z, SFits}
 use Rattle.std.specs.Int.{w128, int_rem_euclid}
+use Rattle.std.proofs.Math.Numerals.{add-one}
 use Rattle.std.proofs.lemmas.Int.{ints, to_z_pos}
-use Rattle.std.proofs.lemmas.Nat.{and_mask, pow_pos, pow_below, pow-add, mod_below}
+use Rattle.std.proofs.lemmas.Nat.{and_mask, pow_pos, pow_below, pow-add, mod_below, div-mul-add}
 use Rattle.tcl_num.specs.Congruence.{Congruent}
 use Rattle.tcl_num.proofs.Congruences.{remainder_congruent}
 
@@ -24,10 +25,18 @@ lowest_bits k n h fits =
     ap (to_z w128) (and_mask (of_z w128 n) k) ∙ to_z_pos w128 (of_z w128 n % 2 ^ k) (omega arith)
     ∙ remainder_congruent (2 ^ k) (pos (of_z w128 n)) n (pow_pos k) (pattern_congruent k n h fits)
 
--- the mask of a width, from the power of two
-pub mask_is : (k : ℕ) (whole : ℤ) → k ≤ 64 → whole ≡ pos (2 ^ k) → of_z w128 (to_z w128 (of_z w128 whole) -ℤ pos 1) ≡ 2 ^ k - 1
-mask_is k whole h e =
-    let some : 0 < 2 ^ k = pow_pos k in
-    let read : to_z w128 (of_z w128 whole) ≡ pos (2 ^ k) = ap (λ z. to_z w128 (of_z w128 z)) e ∙ to_z_pos w128 (2 ^ k) (pow_below k 127 (omega arith)) in
-    let less : to_z w128 (of_z w128 whole) -ℤ pos 1 ≡ pos (2 ^ k - 1) = omega (arith, ints, read) in
-    ap (of_z w128) less
+-- ones that are shifted out leave a mask
+less_one : (a w : ℕ) → 0 < w → (a + 1) * w - 1 ≡ a * w + (w - 1)
+less_one a w h = let spread : (a + 1) * w ≡ a * w + w = ap (λ n. n * w) (add-one a) ∙ suc-mul a w in omega (arith, h, spread)
+
+mask_by : (whole high low : ℕ) → whole ≡ low * high → 0 < low → 0 < high → (whole - 1) / high ≡ low - 1
+mask_by whole high low e some rest =
+    let least : low ≡ (low - 1) + 1 = omega (arith, some) in
+    ap (λ n. (n - 1) / high) (e ∙ ap (λ n. n * high) least)
+    ∙ ap (λ n. n / high) (less_one (low - 1) high rest)
+    ∙ div-mul-add (low - 1) high (high - 1) (omega (arith, rest))
+
+pub shifted_mask : (k : ℕ) → k ≤ 64 → (2 ^ 64 - 1) / 2 ^ (64 - k) ≡ 2 ^ k - 1
+shifted_mask k h =
+    let sums : 64 ≡ k + (64 - k) = omega arith in
+    mask_by (2 ^ 64) (2 ^ (64 - k)) (2 ^ k) (ap (λ n. 2 ^ n) sums ∙ pow-add 2 k (64 - k)) (pow_pos k) (pow_pos (64 - k))

@@ -1,6 +1,6 @@
 // The values of a word of some width, and the one that is congruent to an integer.
 
-ghost use Rattle.std.specs.Prelude.{◌≡◌, ℕ, ℤ, ◌<◌, ◌≤◌, ◌^◌, ◌↔◌, pos, IsTrue};
+ghost use Rattle.std.specs.Prelude.{◌-◌, ◌≡◌, ℕ, ℤ, ◌<◌, ◌≤◌, ◌^◌, ◌↔◌, pos, IsTrue};
 ghost use Rattle.std.specs.Int.{int_rem_euclid};
 ghost use Rattle.tcl_num.specs.Congruence.{Congruent};
 ghost use Rattle.tcl_num.specs.Range as r;
@@ -83,5 +83,18 @@ pub fn lowest_bits(width: u32, n: i128) -> i128
     requires narrow { width ≤ 64 }
     ensures { result ≡ int_rem_euclid n (pos (2 ^ width)) }
 {
-    n & (power_of_two(width) - 1)
+    n & low_mask(width) as i128
+}
+
+/// The number whose lowest `width` bits are set, and no others; by one shift of 64 bits.
+#[tactic(auto, using(crate::proofs::LowestBits::shifted_mask))]
+pub fn low_mask(width: u32) -> u64
+    requires narrow { width ≤ 64 }
+    ensures { result ≡ 2 ^ width - 1 }
+{
+    if width == 0 {
+        0
+    } else {
+        u64::MAX >> (64 - width)
+    }
 }
