@@ -59,6 +59,7 @@ pub(crate) fn pass(values: &mut [i128], line: &Line, taken: i128)
 }
 
 /// Executes an instruction. `choice` is the value that a `nondet` takes; every other instruction ignores it.
+#[inline]
 fn execute(values: &mut [i128], instr: &Instr, choice: i128)
     requires { CanBeExecuted values.old instr.now choice }
     ensures { values.new ≡ words.step_values values.old instr.now choice }
@@ -100,6 +101,7 @@ struct OperandValues {
 }
 
 /// The operands of the instruction; the choice is the operand of a `nondet`.
+#[inline(always)]
 fn operands(values: &[i128], instr: &Instr, choice: i128) -> OperandValues
     ensures first { result.first ≡ nth (operands_of instr.now.op (words.operand_values values.now instr.now.args) choice) 0 }
     ensures second { result.second ≡ nth (operands_of instr.now.op (words.operand_values values.now instr.now.args) choice) 1 }
@@ -116,6 +118,7 @@ fn operands(values: &[i128], instr: &Instr, choice: i128) -> OperandValues
 }
 
 /// The values of the first three of a list of operands.
+#[inline(always)]
 fn arguments(values: &[i128], args: &[Atom]) -> OperandValues
     ensures first { result.first ≡ nth (words.operand_values values.now args.now) 0 }
     ensures second { result.second ≡ nth (words.operand_values values.now args.now) 1 }
@@ -146,6 +149,7 @@ fn arguments(values: &[i128], args: &[Atom]) -> OperandValues
 }
 
 /// The value of an operand; 0 where it names no variable.
+#[inline(always)]
 fn atom_value(values: &[i128], atom: &Atom) -> i128
     ensures { result ≡ words.atom_value values.now atom.now }
 {
@@ -156,6 +160,7 @@ fn atom_value(values: &[i128], atom: &Atom) -> i128
 }
 
 /// The value of a variable; 0 where there is no such variable.
+#[inline(always)]
 fn value_at(values: &[i128], variable: u32) -> i128
     ensures { result ≡ words.value_at values.now variable }
 {
@@ -166,6 +171,7 @@ fn value_at(values: &[i128], variable: u32) -> i128
 }
 
 /// Gives a variable a value, where there is such a variable.
+#[inline(always)]
 fn set(values: &mut [i128], variable: u32, value: i128)
     ensures { values.new ≡ set_named values.old (Some variable) value }
 {
@@ -176,6 +182,7 @@ fn set(values: &mut [i128], variable: u32, value: i128)
 }
 
 /// Gives variable `k` of the results its value.
+#[inline(always)]
 fn set_result(values: &mut [i128], outs: &[u32], k: usize, value: i128)
     ensures { values.new ≡ set_named values.old (slice_get outs.now k) value }
 {
@@ -187,6 +194,7 @@ fn set_result(values: &mut [i128], outs: &[u32], k: usize, value: i128)
 
 /// Gives the results their values, from left to right.
 #[tactic(auto, using(crate::proofs::Writing::write_one, crate::proofs::Writing::write_two))]
+#[inline(always)]
 fn write(values: &mut [i128], outs: &[u32], results: Results)
     ensures { values.new ≡ words.write_values values.old outs.now (listed results) }
 {

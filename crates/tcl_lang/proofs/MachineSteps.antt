@@ -38,10 +38,10 @@ pub parts_natural : (w : ℕ) (n : ℤ) (p : ℕ) → pos p ≡ n → parts_of w
 parts_natural w n p e = ap (parts_of w) (sym e)
 
 -- the lowest bits of a natural number by a mask, and its high part by a shift
-pub machine_low : (p w q : ℕ) → q ≡ 2 ^ w → w ≤ 64 → to_z w128 (bit_and p (q - 1)) ≡ pos (p % 2 ^ w)
-machine_low p w q e h =
+pub machine_low : (p w m : ℕ) → m ≡ 2 ^ w - 1 → w ≤ 64 → to_z w128 (bit_and p m) ≡ pos (p % 2 ^ w)
+machine_low p w m e h =
     let below = mod_below p (2 ^ w) (pow_pos w) in
-    ap (λ m. to_z w128 (bit_and p (m - 1))) e ∙ ap (to_z w128) (and_mask p w) ∙ to_z_pos w128 (p % 2 ^ w) (omega (arith, below, power_within w h))
+    ap (λ n. to_z w128 (bit_and p n)) e ∙ ap (to_z w128) (and_mask p w) ∙ to_z_pos w128 (p % 2 ^ w) (omega (arith, below, power_within w h))
 
 pub machine_high : (p w : ℕ) (a b : ℤ) → w ≤ 64 → pos p ≡ a *ℤ b → InRange false w a → InRange false w b → to_z w128 (p / 2 ^ w) ≡ pos (p / 2 ^ w)
 machine_high p w a b h f x y =

@@ -15,7 +15,7 @@ use crate::instr::Op;
 use crate::result_values::Results;
 use crate::ty::Ty;
 use crate::wrapping::wrap;
-use tcl_num::lowest_bits;
+use tcl_num::{low_mask, lowest_bits};
 
 /// The value of the type that is congruent to the product of two values of the type.
 pub fn wrapped_product(ty: Ty, a: i128, b: i128) -> i128
@@ -27,7 +27,7 @@ pub fn wrapped_product(ty: Ty, a: i128, b: i128) -> i128
     if ty.signed {
         wrap(ty, product(a, b))
     } else {
-        (unsigned_product(a, b) & ((1u128 << ty.width) - 1)) as i128
+        (unsigned_product(a, b) & low_mask(ty.width) as u128) as i128
     }
 }
 
@@ -42,7 +42,7 @@ fn product_parts(ty: Ty, a: i128, b: i128) -> Results
         parts(product(a, b), ty.width)
     } else {
         let whole = unsigned_product(a, b);
-        let mask = (1u128 << ty.width) - 1;
+        let mask = low_mask(ty.width) as u128;
         Results::Two((whole >> ty.width) as i128, (whole & mask) as i128)
     }
 }
@@ -79,7 +79,7 @@ fn flipped(n: i128, width: u32) -> u128
     ensures value { result ≡ 2 ^ width - 1 - pattern_of width n }
     ensures below { result < 2 ^ 64 }
 {
-    (1u128 << width) - 1 - pattern(n, width)
+    low_mask(width) as u128 - pattern(n, width)
 }
 
 /// The results of the instruction at the operands `a`, `b` and `c`, of which it reads as many as it has. It is compiled into its

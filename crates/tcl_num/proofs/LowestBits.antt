@@ -1,5 +1,5 @@
 -- The lowest bits of an integer's pattern in two's complement are its remainder from 0 up.
-use Rattle.std.proofs.Common.{suc-mul, ◌≡◌, ℕ, ◌+◌, ◌-◌, ◌*◌, ◌/◌, ◌%◌, ◌^◌, ◌<◌, ◌≤◌, ◌∙◌, ap, arith, bit_and, ℤ, pos, negsuc, ◌-ℤ◌, to_z, of_z, SFits}
+use Rattle.std.proofs.Common.{suc-mul, ◌≡◌, ℕ, ◌+◌, ◌-◌, ◌*◌, ◌/◌, ◌%◌, ◌^◌, ◌<◌, ◌≤◌, ◌∙◌, ap, arith, bit_and, ℤ, pos, negsuc, to_z, of_z, SFits}
 use Rattle.std.specs.Int.{w128, int_rem_euclid}
 use Rattle.std.proofs.Math.Numerals.{add-one}
 use Rattle.std.proofs.lemmas.Int.{ints, to_z_pos}

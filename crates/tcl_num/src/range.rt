@@ -66,11 +66,11 @@ fn residue_value(signed: bool, width: u32, n: i128) -> i128
 {
     let left = lowest_bits(width, n);
     if signed {
-        let half = power_of_two(width - 1);
+        let half = word_power(width - 1);
         if left < half {
             left
         } else {
-            left - power_of_two(width)
+            left - word_power(width)
         }
     } else {
         left
@@ -97,4 +97,12 @@ pub fn low_mask(width: u32) -> u64
     } else {
         u64::MAX >> (64 - width)
     }
+}
+
+/// 2 to the power `exponent`, which is at most 64; by one shift of 64 bits.
+fn word_power(exponent: u32) -> i128
+    requires { exponent ≤ 64 }
+    ensures { result ≡ pos (2 ^ exponent) }
+{
+    low_mask(exponent) as i128 + 1
 }
