@@ -1,7 +1,7 @@
 -- An assignment that denies a fact meets its clauses.
 use Rattle.std.proofs.Common.{◌≡◌, inl, inr, ℕ, zero, suc, ◌≤◌, Bool, true, false, List, [], ◌∷◌, length, fold, Option, Some, None, refl, sym, ◌∙◌, ap, subst, arith, ℤ}
 use Rattle.std.specs.List.{slice_get, list_all}
-use Rattle.std.proofs.lemmas.Bool.{and_parts, cases_lt}
+use Rattle.std.proofs.lemmas.Bool.{and_parts, and_from, cases_lt}
 use Rattle.tcl_gates.specs.declared.gate.Gate.{Gate}
 use Rattle.tcl_gates.specs.Gates.{value_at, values_of as circuit_values}
 use Rattle.tcl_gates.specs.Meaning.{lit_bit}
@@ -39,9 +39,10 @@ use Rattle.tcl_goals.specs.Keys.{claim_place}
 use Rattle.tcl_goals.specs.Order.{is_step_before, InOrder}
 use Rattle.tcl_goals.specs.Holds.{lemma_holds}
 use Rattle.tcl_goals.specs.Free.{bit_variables, lemma_variables, claim_variables, fact_variables}
-use Rattle.tcl_goals.specs.Assignments.{Assigns, hyp_of, cube_of, claim_of, HoldsOfAll}
+use Rattle.tcl_goals.specs.Assignments.{Assigns, hyp_of, claim_of, HoldsOfAll}
 use Rattle.tcl_words.specs.Ranges.{atom_ty}
 use Rattle.tcl_blast.specs.Laws.{DenialsMeetClauses, RefutedClausesProve}
+use Rattle.tcl_blast.specs.Models.{line_in_clauses, hyp_in_clauses, Models, ModelsMeetClauses}
 use Rattle.tcl_blast.specs.Lifted.{fixed_bits_of}
 use Rattle.tcl_blast.specs.Begin.{begun}
 use Rattle.tcl_blast.specs.declared.blasted.Blasted.{Blasted}
@@ -78,27 +79,38 @@ condition_literal p k (Assume q) store free known s w at states read x = absurd 
 condition_literal p k (Cut q) store free known s w at states read x = absurd (cc)
 condition_literal p k (Post q) store free known s w at states read x = absurd (cc)
 
--- a line that is a hypothesis
+-- a line that is a hypothesis, of which the clauses say that it holds, or that the bits that it fixes have their values
 line_state : (p : VersionedProgram) (k : ℕ) (l : Line) (o : Option Pred) (store : List Word) (free : List Bool) (known : ℕ → Bool) (s : Blasted) → IsWellFormed p → slice_get p.lines k ≡ Some l → predicate_of l ≡ o
-    → ((v : ℕ) → (word_at store v).ty ≡ atom_ty (types_of p.variables) (Var v)) → ((v : ℕ) → length p.variables ≤ v → word_at store v ≡ empty_word)
-    → ((v : ℕ) → is_among (used_names l) v ≡ true → known v ≡ true) → line_truth store l ≡ true → IsState p.variables store free known s
+    → ((v : ℕ) → length p.variables ≤ v → word_at store v ≡ empty_word)
+    → ((v : ℕ) → is_among (used_names l) v ≡ true → known v ≡ true) → line_in_clauses p store (Some l) o ≡ true → IsState p.variables store free known s
     → IsState p.variables store free known (stated_line p (by_fixed_bits p.variables) s (Some l) o)
-line_state p k l (Some (Rng pred)) store free known s w at states types past read holds x =
+line_state p k l (Some (Rng pred)) store free known s w at states past read holds x =
     stated_state s (range_wire p s pred) (pred_made s.words (types_of p.variables) pred s.gates x.within) (range_literal p k l pred store free known s w at states read x ∙ holds) x
-line_state p k l (Some (Alg pred)) store free known s w at states types past read holds x =
+line_state p k l (Some (Alg pred)) store free known s w at states past read holds x =
     bits_state s (fixed_bits_of p.variables pred) past
     (fixed_readable p.variables known pred (λ v m. read v (ap (λ o. is_among (stated_names o (instruction_of l)) v) states ∙ among_left (term_names pred.left) (term_names pred.right) v m)))
-    (fixed_hold p.variables store pred types (sym (ap (λ o. stated_truth store o (instruction_of l)) states) ∙ holds)) x
-line_state p k l None store free known s w at states types past read holds x =
+    holds x
+line_state p k l None store free known s w at states past read holds x =
     stated_state s (exactness_wire p s (Some l)) (condition_made s.gates s.words p.variables (Some l) x.within) (condition_literal p k l store free known s w at states read x ∙ holds) x
 
 place_state : (p : VersionedProgram) (k : ℕ) (o : Option Line) (store : List Word) (free : List Bool) (known : ℕ → Bool) (s : Blasted) → IsWellFormed p → slice_get p.lines k ≡ o
-    → ((v : ℕ) → (word_at store v).ty ≡ atom_ty (types_of p.variables) (Var v)) → ((v : ℕ) → length p.variables ≤ v → word_at store v ≡ empty_word)
-    → ((v : ℕ) → is_among (read_in o) v ≡ true → known v ≡ true) → truth_in store o ≡ true → IsState p.variables store free known s
+    → ((v : ℕ) → length p.variables ≤ v → word_at store v ≡ empty_word)
+    → ((v : ℕ) → is_among (read_in o) v ≡ true → known v ≡ true) → line_in_clauses p store o (predicate_in o) ≡ true → IsState p.variables store free known s
     → IsState p.variables store free known (stated_line p (by_fixed_bits p.variables) s o (predicate_in o))
-place_state p k None store free known s w at types past read holds x =
+place_state p k None store free known s w at past read holds x =
     stated_state s (exactness_wire p s None) (condition_made s.gates s.words p.variables None x.within) (true_wire s.gates free) x
-place_state p k (Some l) store free known s w at types past read holds x = line_state p k l (predicate_of l) store free known s w at refl types past read holds x
+place_state p k (Some l) store free known s w at past read holds x = line_state p k l (predicate_of l) store free known s w at refl past read holds x
+
+-- a line that holds: the bits that it fixes have their values
+line_told : (p : VersionedProgram) (l : Line) (o : Option Pred) (store : List Word) → predicate_of l ≡ o → ((v : ℕ) → (word_at store v).ty ≡ atom_ty (types_of p.variables) (Var v)) → line_truth store l ≡ true → line_in_clauses p store (Some l) o ≡ true
+line_told p l (Some (Rng pred)) store states types holds = holds
+line_told p l (Some (Alg pred)) store states types holds =
+    fixed_hold p.variables store pred types (sym (ap (λ o. stated_truth store o (instruction_of l)) states) ∙ holds)
+line_told p l None store states types holds = holds
+
+place_told : (p : VersionedProgram) (o : Option Line) (store : List Word) → ((v : ℕ) → (word_at store v).ty ≡ atom_ty (types_of p.variables) (Var v)) → truth_in store o ≡ true → line_in_clauses p store o (predicate_in o) ≡ true
+place_told p None store types holds = holds
+place_told p (Some l) store types holds = line_told p l (predicate_of l) store refl types holds
 
 -- a denied line
 denied_line_state : (p : VersionedProgram) (k : ℕ) (l : Line) (o : Option Pred) (store : List Word) (free : List Bool) (known : ℕ → Bool) (s : Blasted) → IsWellFormed p → slice_get p.lines k ≡ Some l → predicate_of l ≡ o
@@ -139,11 +151,10 @@ fact_readable p lemmas fact bits h n b e = elim (cases_lt b.var (length p.variab
 ]
 
 -- the hypotheses
-hyp_state : (p : VersionedProgram) (lemmas : List Numbered) (fact : Fact) (values : List ℤ) (free : List Bool) (h : Hyp) (n : ℕ) (s : Blasted) → IsWellFormed p → Assigns p fact values → slice_get fact.hyps n ≡ Some h → hyp_of p lemmas values h ≡ true
+hyp_state : (p : VersionedProgram) (lemmas : List Numbered) (fact : Fact) (values : List ℤ) (free : List Bool) (h : Hyp) (n : ℕ) (s : Blasted) → IsWellFormed p → Assigns p fact values → slice_get fact.hyps n ≡ Some h → hyp_in_clauses p lemmas values h ≡ true
     → IsState p.variables (words_of p.variables values) free (known_by p lemmas fact fact.uses) s → IsState p.variables (words_of p.variables values) free (known_by p lemmas fact fact.uses) (with_hyp p (by_fixed_bits p.variables) lemmas s h)
-unfolding truth_of
 hyp_state p lemmas fact values free (hyp.Line k) n s w a at holds x =
-    place_state p k (slice_get p.lines k) (words_of p.variables values) free (known_by p lemmas fact fact.uses) s w refl (λ v. word_type p.variables values v a.typed) (past_empty p.variables values)
+    place_state p k (slice_get p.lines k) (words_of p.variables values) free (known_by p lemmas fact fact.uses) s w refl (past_empty p.variables values)
     (λ v m. known_after p lemmas fact v (read_less p k v (slice_get p.lines k) w refl m) (hyp_named p lemmas fact n v (hyp.Line k) at m)) holds x
 hyp_state p lemmas fact values free (hyp.Lemma i) n s w a at holds x = by (lemma_of lemmas i) refl
   where
@@ -155,14 +166,28 @@ hyp_state p lemmas fact values free (hyp.Lemma i) n s w a at holds x = by (lemma
         (sym (ap (lemma_holds (words_of p.variables values)) e) ∙ holds) x
 
 hyps_state : (p : VersionedProgram) (lemmas : List Numbered) (fact : Fact) (values : List ℤ) (free : List Bool) (hyps : List Hyp) (s : Blasted) → IsWellFormed p → Assigns p fact values
-    → ((n : ℕ) (h : Hyp) → slice_get hyps n ≡ Some h → (m : ℕ) × (slice_get fact.hyps m ≡ Some h)) → list_all (hyp_of p lemmas values) hyps ≡ true
+    → ((n : ℕ) (h : Hyp) → slice_get hyps n ≡ Some h → (m : ℕ) × (slice_get fact.hyps m ≡ Some h)) → list_all (hyp_in_clauses p lemmas values) hyps ≡ true
     → IsState p.variables (words_of p.variables values) free (known_by p lemmas fact fact.uses) s → IsState p.variables (words_of p.variables values) free (known_by p lemmas fact fact.uses) (fold (with_hyp p (by_fixed_bits p.variables) lemmas) s hyps)
 hyps_state p lemmas fact values free [] s w a there holds x = x
 hyps_state p lemmas fact values free (h ∷ hyps) s w a there holds x =
-    let parts = and_parts (hyp_of p lemmas values h) (list_all (hyp_of p lemmas values) hyps) holds in
+    let parts = and_parts (hyp_in_clauses p lemmas values h) (list_all (hyp_in_clauses p lemmas values) hyps) holds in
     let place = there 0 h refl in
     hyps_state p lemmas fact values free hyps (with_hyp p (by_fixed_bits p.variables) lemmas s h) w a (λ n g e. there (suc n) g e) parts.1
     (hyp_state p lemmas fact values free h place.0 s w a place.1 parts.0 x)
+
+-- hypotheses that hold
+hyp_told : (p : VersionedProgram) (lemmas : List Numbered) (fact : Fact) (values : List ℤ) (h : Hyp) → Assigns p fact values → hyp_of p lemmas values h ≡ true → hyp_in_clauses p lemmas values h ≡ true
+unfolding truth_of
+hyp_told p lemmas fact values (hyp.Line k) a holds =
+    place_told p (slice_get p.lines k) (words_of p.variables values) (λ v. word_type p.variables values v a.typed) holds
+hyp_told p lemmas fact values (hyp.Lemma i) a holds = holds
+
+hyps_told : (p : VersionedProgram) (lemmas : List Numbered) (fact : Fact) (values : List ℤ) (hyps : List Hyp) → Assigns p fact values → list_all (hyp_of p lemmas values) hyps ≡ true → list_all (hyp_in_clauses p lemmas values) hyps ≡ true
+hyps_told p lemmas fact values [] a holds = refl
+hyps_told p lemmas fact values (h ∷ hyps) a holds =
+    let parts = and_parts (hyp_of p lemmas values h) (list_all (hyp_of p lemmas values) hyps) holds in
+    and_from (hyp_in_clauses p lemmas values h) (list_all (hyp_in_clauses p lemmas values) hyps) (hyp_told p lemmas fact values h a parts.0)
+    (hyps_told p lemmas fact values hyps a parts.1)
 
 -- the denied claim
 claim_state : (p : VersionedProgram) (lemmas : List Numbered) (fact : Fact) (values : List ℤ) (free : List Bool) (c : Claim) (s : Blasted) → IsWellFormed p → Assigns p fact values
@@ -175,25 +200,29 @@ claim_state p lemmas fact values free (claim.Goal i) s w a named denies x =
 claim_state p lemmas fact values free (claim.Lemma m) s w a named denies x = denied_bits_state s m.clause (past_empty p.variables values) (fact_readable p lemmas fact m.clause named) denies x
 
 -- the whole
-pub fact_state : (p : VersionedProgram) (lemmas : List Numbered) (fact : Fact) (values : List ℤ) → IsWellFormed p → InOrder p lemmas fact → Assigns p fact values → list_all (hyp_of p lemmas values) fact.hyps ≡ true
-    → cube_of p values fact.cube ≡ true → claim_of p values fact.claim ≡ false
+pub fact_state : (p : VersionedProgram) (lemmas : List Numbered) (fact : Fact) (values : List ℤ) → IsWellFormed p → InOrder p lemmas fact → Models p lemmas fact values
     → IsState p.variables (words_of p.variables values) (free_of_values p lemmas fact values) (known_by p lemmas fact fact.uses) (blasted_of p lemmas fact)
-fact_state p lemmas fact values w order a hyps cube denies =
+fact_state p lemmas fact values w order m =
+    let a = m.assigns in
     let free = free_of_values p lemmas fact values in
     let rise = (and_parts (numbers_rise fact.uses) (list_all (is_step_before p.lines (claim_place p.lines fact.claim)) fact.uses) order.uses).0 in
     let first = blank_state p lemmas fact values w a.typed in
     let used = uses_state p lemmas fact values free (blank (begun p lemmas fact)) w a rise first in
-    let assumed = hyps_state p lemmas fact values free fact.hyps (used_of p lemmas fact) w a (λ n h e. (n, e)) hyps used in
+    let assumed = hyps_state p lemmas fact values free fact.hyps (used_of p lemmas fact) w a (λ n h e. (n, e)) m.hyps used in
     let cubed =
-    bits_state (fold (with_hyp p (by_fixed_bits p.variables) lemmas) (used_of p lemmas fact) fact.hyps) fact.cube (past_empty p.variables values) (fact_readable p lemmas fact fact.cube (cube_named p lemmas fact)) cube assumed in
-    claim_state p lemmas fact values free fact.claim (assumed_of p (by_fixed_bits p.variables) lemmas fact) w a (claim_named p lemmas fact) denies cubed
+    bits_state (fold (with_hyp p (by_fixed_bits p.variables) lemmas) (used_of p lemmas fact) fact.hyps) fact.cube (past_empty p.variables values) (fact_readable p lemmas fact fact.cube (cube_named p lemmas fact)) m.cube assumed in
+    claim_state p lemmas fact values free fact.claim (assumed_of p (by_fixed_bits p.variables) lemmas fact) w a (claim_named p lemmas fact) m.denied cubed
+
+pub models_meet : ModelsMeetClauses
+unfolding clauses_of
+models_meet p lemmas fact values w order m =
+    let gates = (blasted_of p lemmas fact).gates in
+    let x = fact_state p lemmas fact values w order m in
+    record { values = value_at (circuit_values gates (free_of_values p lemmas fact values)); met = x.met.each gates (begins_same gates) x.ordered }
 
 pub denials_meet : DenialsMeetClauses
-unfolding clauses_of
 denials_meet p lemmas fact values w order a hyps cube denies =
-    let gates = (blasted_of p lemmas fact).gates in
-    let x = fact_state p lemmas fact values w order a hyps cube denies in
-    record { values = value_at (circuit_values gates (free_of_values p lemmas fact values)); met = x.met.each gates (begins_same gates) x.ordered }
+    models_meet p lemmas fact values w order (record { assigns = a; hyps = hyps_told p lemmas fact values fact.hyps a hyps; cube = cube; denied = denies })
 
 pub refuted_prove : RefutedClausesProve
 unfolding HoldsOfAll

@@ -27,6 +27,7 @@ use Rattle.tcl_goals.specs.Order.{InOrder}
 use Rattle.tcl_goals.specs.Assignments.{Assigns, cube_of, claim_of}
 use Rattle.tcl_blast.specs.Lifted.{fixed_bits_of}
 use Rattle.tcl_blast.specs.Clauses.{predicate_in, blasted_of, clauses_of}
+use Rattle.tcl_blast.specs.Laws.{AreMet}
 
 -- the number that the literals of a variable have, 0 where it has none
 abbrev pub literals_value : (ℕ → Bool) → Variable → List ℕ → ℤ
@@ -69,3 +70,9 @@ ModelsAreAssignments =
     (p : VersionedProgram) (lemmas : List Numbered) (fact : Fact) (v : ℕ → Bool) → IsWellFormed p →
     InOrder p lemmas fact → is_algebraic_claim p fact.claim ≡ false → Satisfies v (clauses_of p lemmas fact) →
     Models p lemmas fact (assignment_of p lemmas fact v)
+
+-- and such an assignment of a fact in order meets its clauses, by some values of their variables
+abbrev pub ModelsMeetClauses : Type 0
+ModelsMeetClauses =
+    (p : VersionedProgram) (lemmas : List Numbered) (fact : Fact) (values : List ℤ) → IsWellFormed p →
+    InOrder p lemmas fact → Models p lemmas fact values → AreMet (clauses_of p lemmas fact)

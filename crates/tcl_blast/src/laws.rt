@@ -18,6 +18,11 @@ pub fn models_are_assignments()
     ensures { models.ModelsAreAssignments }
 {}
 
+/// And such an assignment of a fact in order meets its clauses, by some values of their variables.
+pub fn models_meet_clauses()
+    ensures { models.ModelsMeetClauses }
+{}
+
 /// A model of the clauses of a fact in order that uses all instructions before its goal, which is no algebraic goal, is a
 /// run: that from the input of its bits. A variable that the fact does not name, and one of a line at or after the place of
 /// the claim, takes the value 0.
