@@ -1,6 +1,7 @@
 -- Steps of the board and its runs.
 use Rattle.std.specs.Prelude.{◌≡◌, ◌<◌, ℕ, ℤ, Bool, true, false, List, [], ◌∷◌, length, slice_get, Option, Some}
 use Rattle.tcl_lang.specs.Program.{VersionedProgram}
+use Rattle.tcl_lang.specs.Goal.{is_goal_at}
 use Rattle.tcl_lang.specs.Correct.{IsCounterexample}
 use Rattle.tcl_lang.specs.declared.outcome.Truth.TheVariants as truth
 use Rattle.tcl_goals.specs.declared.fact.Fact.{Fact}
@@ -39,13 +40,14 @@ pub record IsBreak (causes : Causes) (p : VersionedProgram) (budget : ℕ) (q : 
   pub breaks : IsCounterexample (length p.variables) p.lines input g
   pub stray : g < q.goal → causes p budget q (cause.Stray (goal_place p.lines g) truth.No input)
 
-abbrev pub is_stray_no : Cause → Bool
-is_stray_no (cause.Stray h truth.No input) = true
-is_stray_no _ = false
+-- a stray that is a goal with the truth `No`: its input breaks that goal, and so comes as a break
+abbrev pub is_broken_goal : VersionedProgram → Cause → Bool
+is_broken_goal p (cause.Stray k truth.No input) = is_goal_at p.lines k
+is_broken_goal p _ = false
 
 pub record IsTrueCause (causes : Causes) (p : VersionedProgram) (budget : ℕ) (q : Piece) (c : Cause) : Type 0 where
   pub true_of : causes p budget q c
-  pub not_stray : is_stray_no c ≡ false
+  pub not_broken : is_broken_goal p c ≡ false
 
 -- what is submitted for the piece is what the word says
 abbrev pub IsTrueGift : Causes → BoardState → Option Piece → Word → Seen → Type 0

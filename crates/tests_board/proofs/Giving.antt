@@ -37,4 +37,4 @@ may_give_lemma s (Some q) sh cited = tt
 -- the spent budget
 pub may_end : (s : BoardState) (n : ℕ) (o : Option Piece) → s.budget ≡ n → MayGive test_causes s o (seen.Ended (cause.Steps n))
 may_end s n None same = tt
-may_end s n (Some q) same = record { true_of = sym same; not_stray = refl }
+may_end s n (Some q) same = record { true_of = sym same; not_broken = refl }
