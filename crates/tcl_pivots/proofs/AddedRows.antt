@@ -34,10 +34,6 @@ front_is value (t ∷ f) = refl
 pub terms_at : {R E : Type 0} (ps : List (Pivot R E)) (k : ℕ) (p : Pivot R E) → p ≡ get_or ps k p → k < length ps → HaveTerms ps → p.row.poly ≡ [] → ⊥
 terms_at ps k p e l h = all_at (λ q. q.row.poly ≡ [] → ⊥) ps k p e l h
 
-pub first_place : (ps : List s.Pivot) (order : List ℕ) (q : s.Pivot) → s.insert_pivot q (pivots_at ps order) ≡ pivots_at ps (take 0 order) ++ s.insert_pivot q (pivots_at ps (drop 0 order))
-first_place ps [] q = refl
-first_place ps (k ∷ order) q = refl
-
 joined : {X : Type 0} (xs : List X) (x : X) (ys : List X) → (xs ++ x ∷ []) ++ ys ≡ xs ++ x ∷ ys
 joined [] x ys = refl
 joined (y ∷ xs) x ys = ap (λ z. y ∷ z) (joined xs x ys)
@@ -132,10 +128,6 @@ on_ok_both (Err e) h i f = tt
 pub kept_terms : {R E : Type 0} (r : ℤ → ℤ) (value : E → ℤ) (ps : List (Pivot R E)) → AreKept r (pivots_shown value ps) → HaveTerms ps
 kept_terms r value [] h = tt
 kept_terms r value (p ∷ ps) h = ((λ z. h.0.some (ap (λ f. coefficient (terms_of value f) (lead (pivot_shown value p))) z)), kept_terms r value ps h.2)
-
-pub below_shown : {R E : Type 0} (value : E → ℤ) (ps : List (Pivot R E)) (places : List ℕ) → AllByRecursion (λ k. k < length (pivots_shown value ps)) places → AllByRecursion (λ k. k < length ps) places
-below_shown value ps [] h = tt
-below_shown value ps (k ∷ places) h = (omega (arith, h.0, length-map ps (pivot_shown value)), below_shown value ps places h.1)
 
 -- ---- the coefficient in front
 

@@ -27,3 +27,4 @@ pub mod AddedRows
 pub mod TargetReducing
 mod SearchExamples
 pub mod Passing
+pub mod Placing

@@ -10,6 +10,7 @@ use Rattle.tcl_poly.proofs.MonomialLaws.{less_chain, order_less, order_greater}
 use Rattle.tcl_poly.proofs.TermMerging.{greater_from}
 use Rattle.tcl_reduce.specs.CofactorSum.{are_wide}
 use Rattle.tcl_reduce.specs.Row as s
+use Rattle.tcl_reduce.specs.Membership.{Target, target_by}
 use Rattle.tcl_pivots.specs.declared.row.Pivot.{Pivot}
 use Rattle.tcl_pivots.specs.Kept.{lead, IsPivot, AreKept}
 use Rattle.tcl_pivots.specs.Held.{pivots_shown, no_pivot, pivots_at, AreSorted, front_monomial}
@@ -19,6 +20,7 @@ use Rattle.tcl_pivots.proofs.Coefficients.{AreLess, monomial_at, later, absent, 
 use Rattle.tcl_pivots.proofs.Pivots.{AreDescending, all_pivots, all_sorted, sorted_descends}
 use Rattle.tcl_pivots.proofs.HeldRows.{all_at, shown_at}
 use Rattle.tcl_pivots.proofs.AddedRows.{front_is}
+use Rattle.tcl_pivots.proofs.TargetReducing.{target_passed}
 
 -- ---- places of the order
 
@@ -141,3 +143,12 @@ row_skip m es ps places a first last l b h =
     ∙ passed_many (λ z. s.row_by m es z a) a.poly qs (row_passed m es a) n first (omega (arith, e, b, places_length ps places)) (λ k x y. h k x (omega (arith, y, e)))
     ∙ ap (λ z. s.row_by m es (drop z qs) a) e
     ∙ ap (λ z. s.row_by m es z a) (sym (pivots_drop ps places last))
+
+pub target_skip : (m : Option ℕ) (es : List Polynomial) (norm : ℕ) (ps : List s.Pivot) (places : List ℕ) (f : Target) (first last : ℕ) → first ≤ last → last ≤ length places → AreAbsent f.poly (pivots_at ps places) first last → target_by m es norm (pivots_at ps (drop first places)) f ≡ target_by m es norm (pivots_at ps (drop last places)) f
+target_skip m es norm ps places f first last l b h =
+    let qs = pivots_at ps places in let n = last - first in
+    let e : first + n ≡ last = omega (arith, l) in
+    ap (λ z. target_by m es norm z f) (pivots_drop ps places first)
+    ∙ passed_many (λ z. target_by m es norm z f) f.poly qs (λ q qs. target_passed m es norm q qs f) n first (omega (arith, e, b, places_length ps places)) (λ k x y. h k x (omega (arith, y, e)))
+    ∙ ap (λ z. target_by m es norm (drop z qs) f) e
+    ∙ ap (λ z. target_by m es norm z f) (sym (pivots_drop ps places last))

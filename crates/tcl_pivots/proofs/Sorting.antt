@@ -15,7 +15,7 @@ use Rattle.tcl_pivots.proofs.Pivots.{AreOther, others, all_pivots, all_sorted}
 before : (p q : Pivot) (qs : List Pivot) → IsMonomial (lead p) → IsMonomial (lead q) → IsLess (lead q) (lead p) → insert_pivot p (q ∷ qs) ≡ p ∷ (q ∷ qs)
 before p q qs h i l = ap (λ o. insert_at o p q qs (insert_pivot p qs)) (order_greater (lead p) (lead q) h i l)
 
-after : (p q : Pivot) (qs : List Pivot) → IsMonomial (lead p) → IsMonomial (lead q) → IsLess (lead p) (lead q) → insert_pivot p (q ∷ qs) ≡ q ∷ insert_pivot p qs
+pub after : (p q : Pivot) (qs : List Pivot) → IsMonomial (lead p) → IsMonomial (lead q) → IsLess (lead p) (lead q) → insert_pivot p (q ∷ qs) ≡ q ∷ insert_pivot p qs
 after p q qs h i l = ap (λ o. insert_at o p q qs (insert_pivot p qs)) (order_less (lead p) (lead q) h i l)
 
 by_order : (P : Type 0) (m n : Monomial) → IsMonomial m → IsMonomial n → (m ≡ n → ⊥) → (IsLess m n → P) → (IsLess n m → P) → P

@@ -99,6 +99,29 @@ fn term_not_above<R: Ring>(ring: &R, a: &Poly<R>, mono: &Mono) -> usize
     low
 }
 
+/// The first place of the order whose row's leading monomial is not greater than that of the polynomial, or the end of the order.
+pub(crate) fn row_not_above<R: Ring>(
+    ring: &R,
+    kept: &[Pivot<R>],
+    order: &[usize],
+    a: &Poly<R>,
+) -> usize
+    requires kept { AreKept (r.reduced_by (R.modulus_of ring.now)) (pivots_shown (R.amount ring.now) kept.now) }
+    requires sorted { AreSorted (pivots_shown (R.amount ring.now) kept.now) order.now }
+    requires some { a.now ≡ [] → ⊥ }
+    ensures last { result ≤ length order.now }
+    ensures monomial { m.IsMonomial (front_monomial a.now) }
+    ensures above { AreAbove (pivots_at (pivots_shown (R.amount ring.now) kept.now) order.now) (front_monomial a.now) 0 result }
+{
+    match terms(a).first() {
+        Some(first) => {
+            let _degree = first.0.degree();
+            place_not_above(ring, kept, order, &first.0, 0)
+        }
+        None => unreachable!(),
+    }
+}
+
 /// The first place from that one on whose row's leading monomial is not greater than the monomial, or the end of the order.
 fn place_not_above<R: Ring>(
     ring: &R,

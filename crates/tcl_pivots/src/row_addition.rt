@@ -1,6 +1,6 @@
 // A row added to the kept rows.
 
-ghost use Rattle.std.specs.Prelude.{◌≡◌, ℤ, ◌<◌, ◌≤◌, [], ◌∷◌, ◌++◌, length, IfOk, OnOk, MatchOption};
+ghost use Rattle.std.specs.Prelude.{◌≡◌, ◌≤◌, [], ◌∷◌, ◌++◌, length, IfOk, OnOk, MatchOption};
 ghost use Rattle.std.specs.List.{AllByRecursion};
 ghost use Rattle.tcl_ring.specs.Reduction as r;
 ghost use Rattle.tcl_poly.specs.Monomial as m;
@@ -10,8 +10,9 @@ ghost use Rattle.tcl_pivots.specs.CofactorLists.{equations_of};
 ghost use Rattle.tcl_pivots.specs.Kept.{AreKept};
 ghost use Rattle.tcl_pivots.specs.RowLaws.{Lacks};
 ghost use Rattle.tcl_pivots.specs.RowState.{row_shown, pivot_shown, IsSound};
-ghost use Rattle.tcl_pivots.specs.Held.{note_shown, pivots_shown, rows_shown, shown_where, front_monomial, front_coefficient, HaveTerms, IsPlace, IsInserted, AreSorted, AreHeld};
+ghost use Rattle.tcl_pivots.specs.Held.{note_shown, pivots_shown, rows_shown, shown_where, front_monomial, front_coefficient, IsPlace, IsInserted, AreSorted, AreHeld};
 
+use crate::lookup::row_not_above;
 use crate::row_reduction::reduce_row;
 use crate::{Note, Pivot, Row, Rows};
 use std::alloc::{AllocError, Global};
@@ -81,22 +82,27 @@ impl<R: Ring> Rows<R> {
         match first_coefficient(&a.poly) {
             None => Ok(()),
             Some(coefficient) => match ring.inverse(&coefficient) {
-                Some(inverse) => self.insert(Pivot { row: a, inverse }),
+                Some(inverse) => self.insert(ring, Pivot { row: a, inverse }),
                 None => self.push_note(no_inverse(ring, &coefficient)),
             },
         }
     }
 
     /// Adds a row at the end, and its number to the order.
-    fn insert(&mut self, pivot: Pivot<R>) -> Result<(), AllocError>
-        requires places { AllByRecursion (λ k. k < length self.old.kept) self.old.order }
-        requires terms { HaveTerms self.old.kept }
+    fn insert(&mut self, ring: &R, pivot: Pivot<R>) -> Result<(), AllocError>
+        requires rows { AreKept (r.reduced_by (R.modulus_of ring.now)) (pivots_shown (R.amount ring.now) self.old.kept) }
+        requires sorted { AreSorted (pivots_shown (R.amount ring.now) self.old.kept) self.old.order }
         requires some { pivot.row.poly ≡ [] → ⊥ }
         ensures kept { OnOk result (self.new.kept ≡ self.old.kept ++ pivot ∷ []) }
         ensures notes { OnOk result (self.new.notes ≡ self.old.notes) }
-        ensures order { OnOk result ((value : R.Elem → ℤ) → IsInserted (pivots_shown value self.old.kept) self.old.order self.new.order (length self.old.kept) (pivot_shown value pivot)) }
+        ensures order { OnOk result (IsInserted (pivots_shown (R.amount ring.now) self.old.kept) self.old.order self.new.order (length self.old.kept) (pivot_shown (R.amount ring.now) pivot)) }
     {
-        let place = place_of(self.kept.as_slice(), self.order.as_slice(), &pivot.row.poly);
+        let place = place_of(
+            ring,
+            self.kept.as_slice(),
+            self.order.as_slice(),
+            &pivot.row.poly,
+        );
         let number = self.kept.len();
         self.order.insert(place, number)?;
         self.kept.push(pivot)
@@ -120,15 +126,17 @@ fn first_coefficient<R: Ring>(a: &Poly<R>) -> Option<R::Elem>
     }
 }
 
-/// The first place of the order whose row has a lesser leading monomial than the polynomial.
-fn place_of<R: Ring>(kept: &[Pivot<R>], order: &[usize], a: &Poly<R>) -> usize
-    requires places { AllByRecursion (λ k. k < length kept.now) order.now }
-    requires terms { HaveTerms kept.now }
+/// The first place of the order whose row has a lesser leading monomial than the polynomial. The rows with greater ones are
+/// passed by halves.
+fn place_of<R: Ring>(ring: &R, kept: &[Pivot<R>], order: &[usize], a: &Poly<R>) -> usize
+    requires kept { AreKept (r.reduced_by (R.modulus_of ring.now)) (pivots_shown (R.amount ring.now) kept.now) }
+    requires sorted { AreSorted (pivots_shown (R.amount ring.now) kept.now) order.now }
     requires some { a.now ≡ [] → ⊥ }
     ensures bound { result ≤ length order.now }
-    ensures place { (value : R.Elem → ℤ) (q : s.Pivot) → s.leading q.row.poly ≡ front_monomial a.now → IsPlace (pivots_shown value kept.now) order.now q result }
+    ensures place { (q : s.Pivot) → s.leading q.row.poly ≡ front_monomial a.now → IsPlace (pivots_shown (R.amount ring.now) kept.now) order.now q result }
 {
-    let mut i = 0;
+    let start = row_not_above(ring, kept, order, a);
+    let mut i = start;
     while i < order.len() {
         let pivot: &Pivot<R> = &kept[order[i]];
         match compare_leading(a, &pivot.row.poly) {

@@ -13,6 +13,7 @@ ghost use Rattle.tcl_pivots.specs.TargetState.{target_shown};
 ghost use Rattle.tcl_pivots.specs.Aim.{IsAimed, IsAimedAfter, IsSettled, target_after};
 ghost use Rattle.tcl_pivots.specs.Held.{pivots_shown, rows_shown, AreSound, AreSorted, AreHeld};
 
+use crate::lookup::seek;
 use crate::row_reduction::leading_coefficient;
 use crate::target_step::target_less;
 use crate::{Note, Pivot, Rows, Target};
@@ -72,7 +73,8 @@ fn is_too_great<R: Ring>(ring: &R, claim: &Poly<R>) -> bool
 }
 
 /// What is left of the claim, reduced by kept rows from the greatest leading monomial down, and whether a step was wide; such a
-/// step is not made. The places are those of the kept rows in that order.
+/// step is not made. The places are those of the kept rows in that order; rows whose leading monomial does not occur are passed
+/// by halves.
 fn reduce_by_places<R: Ring>(
     alloc: Global,
     ring: &R,
@@ -93,18 +95,19 @@ fn reduce_by_places<R: Ring>(
 {
     let mut f = f;
     let mut noted = false;
-    let mut i = 0;
+    let start = seek(ring, &f.poly, kept, order, 0);
+    let mut i = start;
     while i < order.len() {
         let pivot: &Pivot<R> = &kept[order[i]];
         match step_by_pivot(alloc, ring, equations, claim, &f, pivot)? {
-            TargetStep::Same => i += 1,
+            TargetStep::Same => i = seek(ring, &f.poly, kept, order, i + 1),
             TargetStep::Wide => {
                 noted = true;
-                i += 1;
+                i = seek(ring, &f.poly, kept, order, i + 1);
             }
             TargetStep::Next(next) => {
+                i = seek(ring, &next.poly, kept, order, i + 1);
                 f = next;
-                i += 1;
             }
         }
     }

@@ -10,4 +10,5 @@ returns-clause-order g c =
     let order : c.as_slice-2.result.now ≡ now.order = search rules in
     let number : c.len-number.result ≡ length now.kept = search rules in
     let after : c.insert.new.self.items ≡ take i now.order ++ c.len-number.result ∷ drop i now.order = search rules in
-    on_ok c.push.result (λ value. inserted value now c.as_slice.result.now c.as_slice-2.result.now c.insert.new.self.items i c.len-number.result c.args.pivot kept order number after (c.place_of-place.ensures.place value))
+    let value = g.R.Ring.amount c.args.ring.now in
+    on_ok c.push.result (inserted value now c.as_slice.result.now c.as_slice-2.result.now c.insert.new.self.items i c.len-number.result c.args.pivot kept order number after c.place_of-place.ensures.place)

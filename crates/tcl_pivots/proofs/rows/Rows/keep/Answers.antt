@@ -1,16 +1,10 @@
 -- The row is kept, left out with a note, or dropped.
 use Rattle.std.proofs.Common.{sym, ◌∙◌, ap}
-use Rattle.tcl_ring.specs.Reduction as r
 use Rattle.tcl_reduce.specs.Row as s
 use Rattle.tcl_pivots.specs.RowState.{row_shown}
 use Rattle.tcl_pivots.specs.Held.{rows_shown}
-use Rattle.tcl_pivots.proofs.AddedRows.{kept_terms, shown_noted, shown_pushed, keep_noted, keep_kept, new_kept, new_sorted, on_ok_from, on_ok_both}
+use Rattle.tcl_pivots.proofs.AddedRows.{shown_noted, shown_pushed, keep_noted, keep_kept, new_kept, new_sorted, on_ok_from, on_ok_both}
 use Rattle.tcl_pivots.proofs.rows.Rows.keep.Goals as goal
-
-pub insert-requires-clause-terms : goal.insert-requires-clause-terms
-insert-requires-clause-terms g c =
-    let m = g.R.Ring.modulus_of c.args.ring.now in let value = g.R.Ring.amount c.args.ring.now in
-    kept_terms (r.reduced_by m) value c.args.self.now.kept c.requires.kept
 
 pub returns-in-Some-inverse-clause-kept : goal.returns-in-Some-inverse-clause-kept
 returns-in-Some-inverse-clause-kept g c =
@@ -32,7 +26,7 @@ returns-in-Some-inverse-clause-sorted g c =
     let found = rw c.in-Some-inverse.is at c.inverse.ensures in
     let rows = new_kept m value now.kept a c.in-Some.coefficient c.in-Some-inverse.inverse front c.requires.over found.1 c.requires.kept c.requires.lacks in
     on_ok_both c.insert.result c.insert.ensures.kept c.insert.ensures.order
-    (λ kept order. new_sorted m value now.kept c.insert.new.self.kept (record { row = a; inverse = c.in-Some-inverse.inverse }) now.order c.insert.new.self.order modulus rows c.requires.sorted (order value) kept)
+    (λ kept order. new_sorted m value now.kept c.insert.new.self.kept (record { row = a; inverse = c.in-Some-inverse.inverse }) now.order c.insert.new.self.order modulus rows c.requires.sorted order kept)
 
 pub returns-in-None-inverse-clause-kept : goal.returns-in-None-inverse-clause-kept
 returns-in-None-inverse-clause-kept g c =
