@@ -7,6 +7,7 @@ mod butterflies;
 mod checking;
 mod circuit;
 mod formula;
+mod membership;
 mod plain;
 mod products;
 mod reading;
@@ -30,6 +31,8 @@ enum Workload {
     Parse(Kind, u32),
     // Reduce a polynomial of so many terms by so many definitions.
     Reduce(u32, u32),
+    // Search for a claim of so many equations and that degree, over so many products.
+    Member(u32, u32, u32),
     // Check a log of so many lines, each a chain of so many clauses.
     Check(u32, u32),
     // Go through ten instructions over all values of two words of so many bits.
@@ -64,6 +67,10 @@ fn workload_of(words: &[&str]) -> Option<Workload> {
             let (count, definitions) = sizes_of(rest)?;
             Some(Workload::Reduce(count, definitions))
         }
+        "member" => {
+            let (count, exponent, budget) = triple_of(rest)?;
+            Some(Workload::Member(count, exponent, budget))
+        }
         "check" => {
             let (lines, length) = sizes_of(rest)?;
             Some(Workload::Check(lines, length))
@@ -96,6 +103,17 @@ fn sizes_of(words: &[&str]) -> Option<(u32, u32)> {
     Some((first.parse().ok()?, second.parse().ok()?))
 }
 
+fn triple_of(words: &[&str]) -> Option<(u32, u32, u32)> {
+    match *words {
+        [first, second, third] => Some((
+            first.parse().ok()?,
+            second.parse().ok()?,
+            third.parse().ok()?,
+        )),
+        _ => None,
+    }
+}
+
 fn size_of(words: &[&str]) -> Option<u32> {
     match *words {
         [word] => word.parse().ok(),
@@ -117,6 +135,9 @@ fn text_of(alloc: Global, workload: Workload) -> Result<String, AllocError> {
         Workload::Dimacs(formula) => searching::formula_text(alloc, formula),
         Workload::Parse(kind, size) => reading::parse_text(alloc, kind, size),
         Workload::Reduce(count, definitions) => reducing::reduce_text(alloc, count, definitions),
+        Workload::Member(count, exponent, budget) => {
+            membership::membership_text(alloc, count, exponent, budget)
+        }
         Workload::Check(lines, length) => checking::check_text(alloc, lines, length),
         Workload::Walk(width) => walking::walk_text(alloc, width),
         Workload::Plain(width) => plain::plain_text(alloc, width),

@@ -16,8 +16,8 @@ const ROUND: u32 = 1_024;
 
 // A port that counts the polls, and never cancels.
 #[derive(Drop)]
-struct Patient {
-    polls: u64,
+pub(crate) struct Patient {
+    pub(crate) polls: u64,
 }
 
 impl Port for Patient {
