@@ -1,0 +1,23 @@
+-- Where unit propagation alone meets a false clause, no values meet the clauses and no fresh clause is derived.
+use Rattle.std.proofs.Common.{◌≡◌, ◌<◌, ℕ, Bool, List, [], length, take, ◌∙◌, ap, subst, arith}
+use Rattle.std.proofs.lemmas.List.{take-append-le, take_all}
+use Rattle.std.proofs.lemmas.Option.{slice_get-get_or}
+use Rattle.std.proofs.Common.{get_or}
+use Rattle.tcl_cnf.specs.Clause.{Satisfies}
+use Rattle.tcl_cnf.specs.Propagation.{ConflictsAtOnce, IsFresh}
+use Rattle.tcl_cnf.specs.FreshLogs.{DeriveFresh}
+use Rattle.tcl_cnf.proofs.Freshness.{met_no_conflict, no_conflict}
+use Rattle.tcl_cnf.proofs.LogLemmas.{derived_behind}
+
+pub solution_no_conflict : (clauses : List (List ℕ)) (v : ℕ → Bool) → Satisfies v clauses → ConflictsAtOnce clauses → ⊥
+solution_no_conflict clauses v met conflict = met_no_conflict clauses v met conflict
+
+pub spent_no_conflict : (budget : ℕ) (clauses lines : List (List ℕ)) → 0 < budget → DeriveFresh clauses budget lines → ConflictsAtOnce clauses → ⊥
+spent_no_conflict budget clauses lines positive d conflict =
+    let behind = derived_behind clauses lines d.all d.chains in
+    let less : length clauses < length d.all = omega (arith, positive, d.whole) in
+    let first = get_or d.all (length clauses) [] in
+    let fresh = d.fresh.each (length clauses) first (omega arith) (slice_get-get_or d.all (length clauses) [] less) in
+    let front : take (length clauses) d.all ≡ clauses =
+    ap (take (length clauses)) behind.1 ∙ take-append-le (length clauses) clauses behind.0 (omega arith) ∙ take_all (length clauses) clauses (omega arith) in
+    no_conflict clauses first (subst (λ cs. IsFresh cs first) front fresh) conflict

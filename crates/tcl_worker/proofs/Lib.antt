@@ -1,0 +1,11 @@
+pub mod InputLines
+pub mod Conflicts
+pub mod FirstInputs
+pub mod Reductions
+pub mod Checks
+pub mod Walks
+pub mod Breaking
+pub mod Ends
+pub mod GoalNumbers
+pub mod Gifts
+pub mod ModelInputs

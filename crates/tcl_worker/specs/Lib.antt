@@ -1,0 +1,9 @@
+pub mod Reduced
+pub mod Searched
+pub mod Settled
+pub mod Inputs
+pub mod Trials
+pub mod Proofs
+pub mod Strays
+pub mod Worked
+pub mod Outcomes

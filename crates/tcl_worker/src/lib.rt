@@ -1,0 +1,18 @@
+//! The work on a piece of a goal: what comes of it is the kernel's proof of its fact or of an input that breaks a goal, or the
+//! cause with which it ends.
+#![tactic(auto)]
+
+mod checking;
+mod facts;
+mod inputs;
+mod models;
+mod outcomes;
+mod reducing;
+mod searching;
+mod strays;
+mod trying;
+mod walking;
+mod worked;
+mod working;
+
+pub use working::work;
