@@ -10,3 +10,7 @@ pub mod Meanings
 pub mod Told
 pub mod Ended
 pub mod Readback
+pub mod ReportLemmas
+pub mod GoalLemmas
+pub mod EventLemmas
+pub mod ReportLines

@@ -1,0 +1,11 @@
+-- At the end nothing is left.
+use Rattle.std.proofs.Common.{arith}
+use Rattle.tcl_report.proofs.ReportLemmas.{goals_done, nothing_left}
+use Rattle.tcl_report.proofs.report.add_goals.Goals as goal
+
+pub returns : goal.returns
+returns g c = record {
+  ok = nothing_left c.loop-k.text.items _ _
+      (goals_done c.args.typed.now c.args.board.now c.args.goals.now c.loop-k.k (omega (arith, c.loop-k-test.false, c.len-k-end.ensures)))
+      c.loop-k.invariant;
+}
