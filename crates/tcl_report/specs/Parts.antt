@@ -1,11 +1,28 @@
 -- The parts of a canonical text that the printer writes one by one.
 use Rattle.std.specs.Prelude.{ℕ, if◌then◌else◌, List, [], ◌∷◌, ◌++◌, flat_map, codes}
+use Rattle.std.specs.Fmt.{decimal}
+use Rattle.tcl_lang.specs.declared.ty.Ty.{Ty}
 use Rattle.tcl_lang.specs.declared.instr.Atom.{Atom}
 use Rattle.tcl_lang.specs.declared.term.Part.{Part}
 use Rattle.tcl_lang.specs.declared.term.AlgPred.{AlgPred}
 use Rattle.tcl_lang.specs.declared.range.RngPred.{RngPred, fold-RngPred}
 use Rattle.tcl_lang.specs.declared.pred.Line.{Line}
-use Rattle.tcl_text.specs.Canonical.{name_text, atom_text, term_text, range_pred_text_step, part_text, modulus_text, line_text}
+use Rattle.tcl_text.specs.Canonical.{bracket, name_text, type_text, atom_place, atom_text, term_text, range_pred_text_step, part_text, modulus_text, line_text}
+
+-- a sign, behind a bracket where its tree is looser than its place
+abbrev pub sign_text : ℕ → ℕ → ℕ → ℕ → List ℕ
+sign_text code own place sign = bracket code own place ++ sign ∷ []
+
+-- the end of a power
+abbrev pub exponent_text : ℕ → ℕ → List ℕ
+exponent_text k place = codes "**" ++ (decimal k ++ bracket 41 1 place)
+
+-- an operand at a place, and the beginning of a cast
+abbrev pub leaf_text : List (List ℕ) → Atom → ℕ → List ℕ
+leaf_text names atom place = bracket 40 (atom_place atom) place ++ (atom_text names atom ++ bracket 41 (atom_place atom) place)
+
+abbrev pub cast_text : Ty → List ℕ
+cast_text T = codes "cast(" ++ (type_text T ++ codes ", ")
 
 -- a range predicate at a place
 abbrev pub range_pred_text : List (List ℕ) → RngPred → ℕ → List ℕ

@@ -1,6 +1,6 @@
 //! Lines.
 
-ghost use Rattle.std.specs.Prelude.{◌≡◌, ◌++◌, OnOk};
+ghost use Rattle.std.specs.Prelude.{◌≡◌, ◌++◌, OnOk, codes};
 ghost use Rattle.tcl_text.specs.Canonical as canonical;
 ghost use Rattle.tcl_report.specs.Parts as part_words;
 ghost use Rattle.tcl_text.specs.Words as words;
@@ -10,7 +10,7 @@ use crate::range::add_range_pred;
 use crate::term::{add_modulus, add_term};
 use crate::text::{Text, add, add_atom, add_name, add_number, add_type};
 use std::alloc::{AllocError, Global};
-use tcl_lang::{AlgPred, Atom, Instr, Line, Names, Op, Pred};
+use tcl_lang::{AlgPred, Atom, Instr, Line, Names, Op, Pred, RngPred, Ty};
 
 /// The word of an instruction.
 fn word_of_op(op: Op) -> &'static str
@@ -70,8 +70,35 @@ fn add_equation(
     add_modulus(alloc, text, &pred.modulus)
 }
 
-/// Adds a predicate.
+/// Adds a range predicate behind its word.
 #[tactic(auto, using(crate::proofs::TextLemmas::joined))]
+fn add_ranges(
+    alloc: Global,
+    text: &mut Text,
+    names: &Names,
+    pred: &RngPred,
+) -> Result<(), AllocError>
+    ensures ok { OnOk result (text.new.items ≡ text.old.items ++ (codes "rng " ++ canonical.range_pred_text names.now pred.now)) }
+{
+    add(text, b"rng ")?;
+    add_range_pred(pred, alloc, names, 3, text)
+}
+
+/// Adds an algebraic predicate behind its word.
+#[tactic(auto, using(crate::proofs::TextLemmas::joined))]
+fn add_algebra(
+    alloc: Global,
+    text: &mut Text,
+    names: &Names,
+    pred: &AlgPred,
+) -> Result<(), AllocError>
+    ensures ok { OnOk result (text.new.items ≡ text.old.items ++ (codes "alg " ++ part_words.equation_text names.now pred.now)) }
+{
+    add(text, b"alg ")?;
+    add_equation(alloc, text, names, pred)
+}
+
+/// Adds a predicate.
 fn add_predicate(
     alloc: Global,
     text: &mut Text,
@@ -81,15 +108,18 @@ fn add_predicate(
     ensures ok { OnOk result (text.new.items ≡ text.old.items ++ canonical.predicate_text names.now pred.now) }
 {
     match pred {
-        Pred::Rng(pred) => {
-            add(text, b"rng ")?;
-            add_range_pred(pred, alloc, names, 3, text)
-        }
-        Pred::Alg(pred) => {
-            add(text, b"alg ")?;
-            add_equation(alloc, text, names, pred)
-        }
+        Pred::Rng(pred) => add_ranges(alloc, text, names, pred),
+        Pred::Alg(pred) => add_algebra(alloc, text, names, pred),
     }
+}
+
+/// Adds a name behind a space.
+#[tactic(auto, using(crate::proofs::TextLemmas::joined))]
+fn add_spaced_name(text: &mut Text, names: &Names, name: u32) -> Result<(), AllocError>
+    ensures ok { OnOk result (text.new.items ≡ text.old.items ++ part_words.spaced_name names.now name) }
+{
+    add(text, b" ")?;
+    add_name(text, names, name)
 }
 
 /// Adds names, each behind a space.
@@ -98,10 +128,23 @@ fn add_names(text: &mut Text, names: &Names, outs: &[u32]) -> Result<(), AllocEr
     ensures ok { OnOk result (text.new.items ≡ text.old.items ++ part_words.names_text names.now outs.now) }
 {
     for name in outs {
-        add(text, b" ")?;
-        add_name(text, names, *name)?;
+        add_spaced_name(text, names, *name)?;
     }
     Ok(())
+}
+
+/// Adds an operand behind a space.
+#[tactic(auto, using(crate::proofs::TextLemmas::joined))]
+fn add_spaced_atom(
+    alloc: Global,
+    text: &mut Text,
+    names: &Names,
+    atom: &Atom,
+) -> Result<(), AllocError>
+    ensures ok { OnOk result (text.new.items ≡ text.old.items ++ part_words.spaced_atom names.now atom.now) }
+{
+    add(text, b" ")?;
+    add_atom(alloc, text, names, atom)
 }
 
 /// Adds operands, each behind a space.
@@ -115,8 +158,7 @@ fn add_atoms(
     ensures ok { OnOk result (text.new.items ≡ text.old.items ++ part_words.atoms_text names.now atoms.now) }
 {
     for atom in atoms {
-        add(text, b" ")?;
-        add_atom(alloc, text, names, atom)?;
+        add_spaced_atom(alloc, text, names, atom)?;
     }
     Ok(())
 }
@@ -151,8 +193,39 @@ fn add_instruction(
     add_amount(alloc, text, has_amount(instr.op), instr.amount)
 }
 
-/// Adds a line without its end.
+/// Adds the line of a name that is given.
 #[tactic(auto, using(crate::proofs::TextLemmas::joined))]
+fn add_given(
+    alloc: Global,
+    text: &mut Text,
+    names: &Names,
+    ty: Ty,
+    name: u32,
+) -> Result<(), AllocError>
+    ensures ok { OnOk result (text.new.items ≡ text.old.items ++ (codes "in " ++ (canonical.type_text ty ++ (codes " " ++ canonical.name_text names.now name)))) }
+{
+    add(text, b"in ")?;
+    add_type(alloc, text, ty)?;
+    add(text, b" ")?;
+    add_name(text, names, name)
+}
+
+/// Adds a line of this word and a predicate.
+#[tactic(auto, using(crate::proofs::TextLemmas::joined))]
+fn add_stated(
+    alloc: Global,
+    text: &mut Text,
+    names: &Names,
+    word: &[u8],
+    pred: &Pred,
+) -> Result<(), AllocError>
+    ensures ok { OnOk result (text.new.items ≡ text.old.items ++ (word.now ++ canonical.predicate_text names.now pred.now)) }
+{
+    add(text, word)?;
+    add_predicate(alloc, text, names, pred)
+}
+
+/// Adds a line without its end.
 pub(crate) fn add_line(
     alloc: Global,
     text: &mut Text,
@@ -162,32 +235,12 @@ pub(crate) fn add_line(
     ensures ok { OnOk result (text.new.items ≡ text.old.items ++ canonical.line_text names.now line.now) }
 {
     match line {
-        Line::Input(ty, name) => {
-            add(text, b"in ")?;
-            add_type(alloc, text, *ty)?;
-            add(text, b" ")?;
-            add_name(text, names, *name)
-        }
+        Line::Input(ty, name) => add_given(alloc, text, names, *ty, *name),
         Line::Step(instr) => add_instruction(alloc, text, names, instr),
-        Line::Pre(pred) => {
-            add(text, b"pre ")?;
-            add_predicate(alloc, text, names, pred)
-        }
-        Line::Assert(pred) => {
-            add(text, b"assert ")?;
-            add_predicate(alloc, text, names, pred)
-        }
-        Line::Assume(pred) => {
-            add(text, b"assume ")?;
-            add_predicate(alloc, text, names, pred)
-        }
-        Line::Cut(pred) => {
-            add(text, b"cut ")?;
-            add_predicate(alloc, text, names, pred)
-        }
-        Line::Post(pred) => {
-            add(text, b"post ")?;
-            add_predicate(alloc, text, names, pred)
-        }
+        Line::Pre(pred) => add_stated(alloc, text, names, b"pre ", pred),
+        Line::Assert(pred) => add_stated(alloc, text, names, b"assert ", pred),
+        Line::Assume(pred) => add_stated(alloc, text, names, b"assume ", pred),
+        Line::Cut(pred) => add_stated(alloc, text, names, b"cut ", pred),
+        Line::Post(pred) => add_stated(alloc, text, names, b"post ", pred),
     }
 }

@@ -8,7 +8,21 @@ ghost use Rattle.tcl_report.specs.Readable.{IsReadable, ReadsAs};
 use crate::line::add_line;
 use crate::text::{Text, add};
 use std::alloc::{AllocError, Global};
-use tcl_lang::{Lines, Names, Program};
+use tcl_lang::{Line, Lines, Names, Program};
+
+/// Adds a line with its end.
+#[tactic(auto, using(crate::proofs::TextLemmas::joined))]
+fn add_ended_line(
+    alloc: Global,
+    text: &mut Text,
+    names: &Names,
+    line: &Line,
+) -> Result<(), AllocError>
+    ensures ok { OnOk result (text.new.items ≡ text.old.items ++ part_words.ended_line names.now line.now) }
+{
+    add_line(alloc, text, names, line)?;
+    add(text, b"\n")
+}
 
 /// Adds the lines, each with its end.
 #[tactic(auto, using(crate::proofs::TextLemmas::lines_more, crate::proofs::TextLemmas::lines_done))]
@@ -16,8 +30,7 @@ fn add_lines(alloc: Global, text: &mut Text, names: &Names, lines: &Lines) -> Re
     ensures ok { OnOk result (text.new.items ≡ text.old.items ++ part_words.lines_text names.now lines.now) }
 {
     for line in lines.as_slice() {
-        add_line(alloc, text, names, line)?;
-        add(text, b"\n")?;
+        add_ended_line(alloc, text, names, line)?;
     }
     Ok(())
 }

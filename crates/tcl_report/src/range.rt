@@ -4,9 +4,9 @@ ghost use Rattle.std.specs.Prelude.{◌≡◌, ◌++◌, OnOk};
 ghost use Rattle.tcl_text.specs.Canonical as canonical;
 ghost use Rattle.tcl_report.specs.Parts as part_words;
 
-use crate::text::{Text, add, add_atom, add_bracket, add_type};
+use crate::text::{Text, add, add_atom, add_bracket, add_sign, add_type};
 use std::alloc::{AllocError, Global};
-use tcl_lang::{Atom, CmpOp, Names, RngOp, RngPred, RngTerm};
+use tcl_lang::{Atom, CmpOp, Names, RngOp, RngPred, RngTerm, Ty};
 
 /// The loosest place at which an operand stands without brackets.
 fn atom_place(atom: &Atom) -> u32
@@ -74,6 +74,32 @@ fn comparison_text(op: CmpOp) -> &'static str
     }
 }
 
+/// Adds an operand that stands at this place.
+#[tactic(auto, using(crate::proofs::TextLemmas::joined))]
+fn add_leaf(
+    alloc: Global,
+    text: &mut Text,
+    names: &Names,
+    atom: &Atom,
+    place: u32,
+) -> Result<(), AllocError>
+    ensures ok { OnOk result (text.new.items ≡ text.old.items ++ part_words.leaf_text names.now atom.now place) }
+{
+    add_bracket(text, b'(', atom_place(atom), place)?;
+    add_atom(alloc, text, names, atom)?;
+    add_bracket(text, b')', atom_place(atom), place)
+}
+
+/// Adds the beginning of a cast.
+#[tactic(auto, using(crate::proofs::TextLemmas::joined))]
+fn add_cast(alloc: Global, text: &mut Text, ty: Ty) -> Result<(), AllocError>
+    ensures ok { OnOk result (text.new.items ≡ text.old.items ++ part_words.cast_text ty) }
+{
+    add(text, b"cast(")?;
+    add_type(alloc, text, ty)?;
+    add(text, b", ")
+}
+
 /// Adds a range term that stands at this place.
 #[tactic(auto, using(crate::proofs::TextLemmas::joined))]
 fn add_range_term(
@@ -86,20 +112,14 @@ fn add_range_term(
     ensures ok { OnOk result (text.new.items ≡ text.old.items ++ canonical.range_term_text names.now term.now place) }
 {
     match term {
-        RngTerm::Leaf(atom) => {
-            add_bracket(text, b'(', atom_place(atom), place)?;
-            add_atom(alloc, text, names, atom)?;
-            add_bracket(text, b')', atom_place(atom), place)
-        }
+        RngTerm::Leaf(atom) => add_leaf(alloc, text, names, atom, place),
         RngTerm::Neg(inner) => {
-            add_bracket(text, b'(', 2, place)?;
-            add(text, b"-")?;
+            add_sign(text, b'(', 2, place, b'-')?;
             add_range_term(inner.get(), alloc, names, 0, text)?;
             add_bracket(text, b')', 2, place)
         }
         RngTerm::Flip(inner) => {
-            add_bracket(text, b'(', 2, place)?;
-            add(text, b"~")?;
+            add_sign(text, b'(', 2, place, b'~')?;
             add_range_term(inner.get(), alloc, names, 1, text)?;
             add_bracket(text, b')', 2, place)
         }
@@ -111,9 +131,7 @@ fn add_range_term(
             add_bracket(text, b')', operator_place(*op), place)
         }
         RngTerm::Cast(ty, inner) => {
-            add(text, b"cast(")?;
-            add_type(alloc, text, *ty)?;
-            add(text, b", ")?;
+            add_cast(alloc, text, *ty)?;
             add_range_term(inner.get(), alloc, names, 7, text)?;
             add(text, b")")
         }
@@ -140,8 +158,7 @@ pub(crate) fn add_range_pred(
             add_range_term(right, alloc, names, 7, text)
         }
         RngPred::Not(inner) => {
-            add_bracket(text, b'[', 1, place)?;
-            add(text, b"!")?;
+            add_sign(text, b'[', 1, place, b'!')?;
             add_range_pred(inner.get(), alloc, names, 0, text)?;
             add_bracket(text, b']', 1, place)
         }

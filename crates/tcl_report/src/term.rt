@@ -4,7 +4,7 @@ ghost use Rattle.std.specs.Prelude.{◌≡◌, ◌++◌, OnOk, Some};
 ghost use Rattle.tcl_text.specs.Canonical as canonical;
 ghost use Rattle.tcl_report.specs.Parts as part_words;
 
-use crate::text::{Text, add, add_bracket, add_integer, add_name, add_number};
+use crate::text::{Text, add, add_bracket, add_integer, add_name, add_number, add_sign};
 use std::alloc::{AllocError, Global};
 use tcl_lang::{Modulus, Names, Part, Term};
 
@@ -23,8 +23,7 @@ pub(crate) fn add_term(
         Term::Var(name) => add_name(text, names, *name),
         Term::Num(n) => add_integer(alloc, text, n),
         Term::Neg(inner) => {
-            add_bracket(text, b'(', 2, place)?;
-            add(text, b"-")?;
+            add_sign(text, b'(', 2, place, b'-')?;
             add_term(inner.get(), alloc, names, 1, text)?;
             add_bracket(text, b')', 2, place)
         }
@@ -52,11 +51,19 @@ pub(crate) fn add_term(
         Term::Pow(base, power) => {
             add_bracket(text, b'(', 1, place)?;
             add_term(base.get(), alloc, names, 0, text)?;
-            add(text, b"**")?;
-            add_number(alloc, text, *power as u64)?;
-            add_bracket(text, b')', 1, place)
+            add_exponent(alloc, text, *power, place)
         }
     }
+}
+
+/// Adds the exponent of a power that stands at this place.
+#[tactic(auto, using(crate::proofs::TextLemmas::joined))]
+fn add_exponent(alloc: Global, text: &mut Text, power: u32, place: u32) -> Result<(), AllocError>
+    ensures ok { OnOk result (text.new.items ≡ text.old.items ++ part_words.exponent_text power place) }
+{
+    add(text, b"**")?;
+    add_number(alloc, text, power as u64)?;
+    add_bracket(text, b')', 1, place)
 }
 
 /// Adds the exponent of a part of a modulus, if it has one.

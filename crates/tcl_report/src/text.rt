@@ -3,6 +3,7 @@
 ghost use Rattle.std.specs.Prelude.{◌≡◌, ◌++◌, OnErr, OnOk, codes, if◌then◌else◌};
 ghost use Rattle.std.specs.Fmt.{decimal, signed_decimal};
 ghost use Rattle.tcl_text.specs.Canonical as canonical;
+ghost use Rattle.tcl_report.specs.Parts as part_words;
 
 use std::alloc::{AllocError, Global};
 use tcl_lang::{Atom, Names, Ty};
@@ -44,6 +45,23 @@ pub(crate) fn add_bracket(text: &mut Text, code: u8, own: u32, place: u32) -> Re
         Ok(())
     } else {
         add(text, &[code])
+    }
+}
+
+/// Adds a sign, behind a bracket where its tree is looser than its place.
+pub(crate) fn add_sign(
+    text: &mut Text,
+    code: u8,
+    own: u32,
+    place: u32,
+    sign: u8,
+) -> Result<(), AllocError>
+    ensures ok { OnOk result (text.new.items ≡ text.old.items ++ part_words.sign_text code own place sign) }
+{
+    if own <= place {
+        add(text, &[sign])
+    } else {
+        add(text, &[code, sign])
     }
 }
 
