@@ -86,8 +86,8 @@ fn low(n: u64, width: u32) -> u64 {
 }
 
 // The bits of a number with the sign bit of this width flipped, by which signed numbers are in order.
-fn ordered(signed: bool, n: u64, width: u32) -> u64 {
-    if signed { n ^ (end_of(width) / 2) } else { n }
+fn ordered(n: u64, width: u32) -> u64 {
+    n ^ (end_of(width) / 2)
 }
 
 fn expect(rt: &impl Abort, name: &str, a: u64, b: u64, found: u64, expected: u64) {
@@ -97,245 +97,216 @@ fn expect(rt: &impl Abort, name: &str, a: u64, b: u64, found: u64, expected: u64
     );
 }
 
+// What is made of two words a and b of free bits.
+#[derive(Clone, Copy)]
+enum Made {
+    Sum,
+    Carry,
+    Difference,
+    Borrow,
+    Negation,
+    Product,
+    And,
+    Or,
+    Xor,
+    First,
+    Second,
+    Shift,
+    Signed,
+    Unsigned,
+    Less,
+    SignedLess,
+    Equal,
+    OneBit,
+    OneSignedBit,
+    MinusTwo,
+}
+
+const MADE: &[(Made, &str)] = &[
+    (Made::Sum, "sum"),
+    (Made::Carry, "carry"),
+    (Made::Difference, "difference"),
+    (Made::Borrow, "borrow"),
+    (Made::Negation, "negation"),
+    (Made::Product, "product"),
+    (Made::And, "and"),
+    (Made::Or, "or"),
+    (Made::Xor, "xor"),
+    (Made::First, "the first"),
+    (Made::Second, "the second"),
+    (Made::Shift, "shift"),
+    (Made::Signed, "signed"),
+    (Made::Unsigned, "unsigned"),
+    (Made::Less, "less"),
+    (Made::SignedLess, "signed less"),
+    (Made::Equal, "equal"),
+    (Made::OneBit, "one bit"),
+    (Made::OneSignedBit, "one signed bit"),
+    (Made::MinusTwo, "minus two"),
+];
+
+// A word of one literal.
+fn bit(alloc: Global, lit: Lit) -> Result<Lits, AllocError> {
+    let mut word = Lits::new(alloc);
+    word.push(lit)?;
+    Ok(word)
+}
+
+// The word that is made, or the literal as a word of one bit. Sums carry 1, and differences borrow 1.
+fn word_of(
+    alloc: Global,
+    gates: &mut Gates,
+    made: Made,
+    width: u32,
+    a: &Lits,
+    b: &Lits,
+) -> Result<Lits, AllocError>
+    requires first { AreWithin (length gates.old) a.now }
+    requires second { AreWithin (length gates.old) b.now }
+{
+    match made {
+        Made::Sum => Ok(adder(alloc, gates, a, b, Lit::of(0))?.word),
+        Made::Carry => bit(alloc, adder(alloc, gates, a, b, Lit::of(0))?.carry),
+        Made::Difference => Ok(difference(alloc, gates, a, b, Lit::of(0))?.word),
+        Made::Borrow => bit(alloc, difference(alloc, gates, a, b, Lit::of(0))?.carry),
+        Made::Negation => negation(alloc, gates, a),
+        Made::Product => product(alloc, gates, a, b),
+        Made::And => bitwise_and(alloc, gates, a, b),
+        Made::Or => bitwise_or(alloc, gates, a, b),
+        Made::Xor => bitwise_xor(alloc, gates, a, b),
+        Made::First => choose(alloc, gates, Lit::of(0), a, b),
+        Made::Second => choose(alloc, gates, Lit::from_number(1), a, b),
+        Made::Shift => shift(alloc, a, 1),
+        Made::Signed => extend(alloc, a, true, width.wrapping_add(2)),
+        Made::Unsigned => extend(alloc, a, false, width.wrapping_add(2)),
+        Made::Less => bit(alloc, less(alloc, gates, false, a, b)?),
+        Made::SignedLess => bit(alloc, less(alloc, gates, true, a, b)?),
+        Made::Equal => bit(alloc, equal(gates, a, b)?),
+        Made::OneBit => bit(alloc, in_range(alloc, gates, a, false, 1)?),
+        Made::OneSignedBit => bit(alloc, in_range(alloc, gates, a, true, 1)?),
+        Made::MinusTwo => constant(alloc, width, -2),
+    }
+}
+
+// What it must be where the words are x and y.
+fn wanted(made: Made, width: u32, x: u64, y: u64) -> u64 {
+    match made {
+        Made::Sum => low(x.wrapping_add(y).wrapping_add(1), width),
+        Made::Carry => x.wrapping_add(y).wrapping_add(1).wrapping_shr(width),
+        Made::Difference => low(x.wrapping_sub(y).wrapping_sub(1), width),
+        Made::Borrow => (x <= y) as u64,
+        Made::Negation => low(0u64.wrapping_sub(x), width),
+        Made::Product => low(x.wrapping_mul(y), width),
+        Made::And => x & y,
+        Made::Or => x | y,
+        Made::Xor => x ^ y,
+        Made::First | Made::Unsigned => x,
+        Made::Second => y,
+        Made::Shift => low(x.wrapping_mul(2), width),
+        Made::Signed => x.wrapping_add(sign_bits(x, width)),
+        Made::Less => (x < y) as u64,
+        Made::SignedLess => is_below(x, y, width) as u64,
+        Made::Equal => (x == y) as u64,
+        Made::OneBit => (x < 2) as u64,
+        Made::OneSignedBit => is_zero_or_minus_one(x, width) as u64,
+        Made::MinusTwo => low(0u64.wrapping_sub(2), width),
+    }
+}
+
+// What two bits of sign add to a word.
+fn sign_bits(x: u64, width: u32) -> u64 {
+    if x >= end_of(width) / 2 {
+        end_of(width).wrapping_mul(3)
+    } else {
+        0
+    }
+}
+
+fn is_below(x: u64, y: u64, width: u32) -> bool {
+    ordered(x, width) < ordered(y, width)
+}
+
+fn is_zero_or_minus_one(x: u64, width: u32) -> bool {
+    x == 0 || x == end_of(width).wrapping_sub(1)
+}
+
+// What is made of two words of free bits, behind the gates of which it is made.
+#[tactic(auto, using(tcl_gates::proofs::Shown::within_grown))]
+fn circuit(alloc: Global, made: Made, width: u32) -> Result<(Gates, Lits), AllocError> {
+    let mut gates = Gates::new(alloc);
+    let a = free_word(alloc, &mut gates, width)?;
+    let b = free_word(alloc, &mut gates, width)?;
+    let word = word_of(alloc, &mut gates, made, width, &a, &b)?;
+    Ok((gates, word))
+}
+
+fn number_at(alloc: Global, gates: &Gates, word: &Lits, free: u64) -> Result<u64, AllocError> {
+    let values = evaluate(alloc, gates, free)?;
+    Ok(number(&values, word))
+}
+
+fn expect_made(
+    rt: &impl Abort,
+    alloc: Global,
+    made: Made,
+    name: &str,
+    width: u32,
+) -> Result<(), AllocError> {
+    let (gates, word) = circuit(alloc, made, width)?;
+    for free in 0..end_of(width.wrapping_mul(2)) {
+        let x = low(free, width);
+        let y = free.wrapping_shr(width);
+        let found = number_at(alloc, &gates, &word, free)?;
+        expect(rt, name, x, y, found, wanted(made, width, x, y));
+    }
+    Ok(())
+}
+
 #[test]
 fn narrow_words_at_all_operands(rt: HostRuntime) -> Result<(), Fail> {
     for width in 1..4u32 {
-        sums(&rt, rt.alloc(), width)?;
-        bits(&rt, rt.alloc(), width)?;
-        tests(&rt, rt.alloc(), width)?;
+        for (made, name) in MADE {
+            expect_made(&rt, rt.alloc(), *made, name, width)?;
+        }
     }
     Ok(())
 }
 
-#[tactic(auto, using(tcl_gates::proofs::Shown::within_grown))]
-fn sums(rt: &impl Abort, alloc: Global, width: u32) -> Result<(), AllocError> {
-    let mut gates = Gates::new(alloc);
-    let a = free_word(alloc, &mut gates, width)?;
-    let b = free_word(alloc, &mut gates, width)?;
-    let sum = adder(alloc, &mut gates, &a, &b, Lit::of(0))?;
-    let apart = difference(alloc, &mut gates, &a, &b, Lit::of(0))?;
-    let opposite = negation(alloc, &mut gates, &a)?;
-    let whole = product(alloc, &mut gates, &a, &b)?;
-    for free in 0..end_of(width.wrapping_mul(2)) {
-        let x = low(free, width);
-        let y = free.wrapping_shr(width);
-        let values = evaluate(alloc, &gates, free)?;
-        let total = x.wrapping_add(y).wrapping_add(1);
-        expect(
-            rt,
-            "sum",
-            x,
-            y,
-            number(&values, &sum.word),
-            low(total, width),
-        );
-        expect(
-            rt,
-            "carry",
-            x,
-            y,
-            read(&values, sum.carry) as u64,
-            total.wrapping_shr(width),
-        );
-        let less_one = x.wrapping_sub(y).wrapping_sub(1);
-        expect(
-            rt,
-            "difference",
-            x,
-            y,
-            number(&values, &apart.word),
-            low(less_one, width),
-        );
-        expect(
-            rt,
-            "borrow",
-            x,
-            y,
-            read(&values, apart.carry) as u64,
-            (x <= y) as u64,
-        );
-        expect(
-            rt,
-            "negation",
-            x,
-            y,
-            number(&values, &opposite),
-            low(0u64.wrapping_sub(x), width),
-        );
-        expect(
-            rt,
-            "product",
-            x,
-            y,
-            number(&values, &whole),
-            low(x.wrapping_mul(y), width),
-        );
-    }
-    Ok(())
+// How many gates are made of words of a width, by hand: w a word, 3 a full adder, 4 a bit of a further row of a product.
+// The full product of two words is the product at twice their width.
+const COUNTS: &[(Made, &str, u32, usize)] = &[
+    (Made::Sum, "sum", 32, 96),
+    (Made::Sum, "sum", 64, 192),
+    (Made::Product, "product", 32, 2_016),
+    (Made::Product, "product", 64, 8_128),
+    (Made::Product, "product", 128, 32_640),
+    (Made::SignedLess, "comparison", 32, 32),
+    (Made::SignedLess, "comparison", 64, 64),
+];
+
+// The gates behind those of the free bits.
+fn gate_count(alloc: Global, made: Made, width: u32) -> Result<usize, AllocError> {
+    let (gates, _) = circuit(alloc, made, width)?;
+    Ok(
+        gates
+            .len()
+            .saturating_sub(width as usize)
+            .saturating_sub(width as usize),
+    )
 }
 
-#[tactic(auto, using(tcl_gates::proofs::Shown::within_grown))]
-fn bits(rt: &impl Abort, alloc: Global, width: u32) -> Result<(), AllocError> {
-    let mut gates = Gates::new(alloc);
-    let a = free_word(alloc, &mut gates, width)?;
-    let b = free_word(alloc, &mut gates, width)?;
-    let both = bitwise_and(alloc, &mut gates, &a, &b)?;
-    let either = bitwise_or(alloc, &mut gates, &a, &b)?;
-    let differing = bitwise_xor(alloc, &mut gates, &a, &b)?;
-    let first = choose(alloc, &mut gates, Lit::of(0), &a, &b)?;
-    let second = choose(alloc, &mut gates, Lit::from_number(1), &a, &b)?;
-    let shifted = shift(alloc, &a, 1)?;
-    let signed = extend(alloc, &a, true, width.wrapping_add(2))?;
-    let unsigned = extend(alloc, &a, false, width.wrapping_add(2))?;
-    for free in 0..end_of(width.wrapping_mul(2)) {
-        let x = low(free, width);
-        let y = free.wrapping_shr(width);
-        let values = evaluate(alloc, &gates, free)?;
-        expect(rt, "and", x, y, number(&values, &both), x & y);
-        expect(rt, "or", x, y, number(&values, &either), x | y);
-        expect(rt, "xor", x, y, number(&values, &differing), x ^ y);
-        expect(rt, "the first", x, y, number(&values, &first), x);
-        expect(rt, "the second", x, y, number(&values, &second), y);
-        expect(
-            rt,
-            "shift",
-            x,
-            1,
-            number(&values, &shifted),
-            low(x.wrapping_mul(2), width),
-        );
-        let sign = if x >= end_of(width) / 2 {
-            end_of(width).wrapping_mul(3)
-        } else {
-            0
-        };
-        expect(
-            rt,
-            "signed",
-            x,
-            2,
-            number(&values, &signed),
-            x.wrapping_add(sign),
-        );
-        expect(rt, "unsigned", x, 2, number(&values, &unsigned), x);
-    }
-    Ok(())
+fn expect_count(rt: &impl Abort, name: &str, width: u32, found: usize, expected: usize) {
+    assert!(rt;
+        found == expected,
+        "{name} of {width} bits: {found} gates and not {expected}"
+    );
 }
 
-#[tactic(auto, using(tcl_gates::proofs::Shown::within_grown))]
-fn tests(rt: &impl Abort, alloc: Global, width: u32) -> Result<(), AllocError> {
-    let mut gates = Gates::new(alloc);
-    let a = free_word(alloc, &mut gates, width)?;
-    let b = free_word(alloc, &mut gates, width)?;
-    let below = less(alloc, &mut gates, false, &a, &b)?;
-    let signed_below = less(alloc, &mut gates, true, &a, &b)?;
-    let same = equal(&mut gates, &a, &b)?;
-    let narrow = in_range(alloc, &mut gates, &a, false, 1)?;
-    let signed_narrow = in_range(alloc, &mut gates, &a, true, 1)?;
-    let minus_two = constant(alloc, width, -2)?;
-    for free in 0..end_of(width.wrapping_mul(2)) {
-        let x = low(free, width);
-        let y = free.wrapping_shr(width);
-        let values = evaluate(alloc, &gates, free)?;
-        expect(
-            rt,
-            "less",
-            x,
-            y,
-            read(&values, below) as u64,
-            (x < y) as u64,
-        );
-        let before = ordered(true, x, width) < ordered(true, y, width);
-        expect(
-            rt,
-            "signed less",
-            x,
-            y,
-            read(&values, signed_below) as u64,
-            before as u64,
-        );
-        expect(
-            rt,
-            "equal",
-            x,
-            y,
-            read(&values, same) as u64,
-            (x == y) as u64,
-        );
-        expect(
-            rt,
-            "one bit",
-            x,
-            y,
-            read(&values, narrow) as u64,
-            (x < 2) as u64,
-        );
-        let lasting = x == 0 || x == end_of(width).wrapping_sub(1);
-        expect(
-            rt,
-            "one signed bit",
-            x,
-            y,
-            read(&values, signed_narrow) as u64,
-            lasting as u64,
-        );
-        let expected = low(0u64.wrapping_sub(2), width);
-        expect(rt, "minus two", x, y, number(&values, &minus_two), expected);
-    }
-    Ok(())
-}
-
-// By hand: w a word, 3 a full adder, 4 a bit of a further row of a product.
 #[test]
 fn circuits_have_so_many_gates(rt: HostRuntime) -> Result<(), Fail> {
-    let alloc = rt.alloc();
-    for (width, sum, whole, full) in [(32u32, 96, 2_016, 8_128), (64, 192, 8_128, 32_640)] {
-        assert_eq!(rt; adder_gates(alloc, width)?, sum, "sum of {width} bits");
-        assert_eq!(rt;
-            product_gates(alloc, width)?,
-            whole,
-            "product of {width} bits"
-        );
-        assert_eq!(rt;
-            product_gates(alloc, width.wrapping_mul(2))?,
-            full,
-            "full product of {width} bits"
-        );
-        assert_eq!(rt;
-            comparison_gates(alloc, width)?,
-            width as usize,
-            "comparison of {width} bits"
-        );
+    for (made, name, width, expected) in COUNTS {
+        let found = gate_count(rt.alloc(), *made, *width)?;
+        expect_count(&rt, name, *width, found, *expected);
     }
     Ok(())
-}
-
-#[tactic(auto, using(tcl_gates::proofs::Shown::within_grown))]
-fn adder_gates(alloc: Global, width: u32) -> Result<usize, AllocError> {
-    let mut gates = Gates::new(alloc);
-    let a = free_word(alloc, &mut gates, width)?;
-    let b = free_word(alloc, &mut gates, width)?;
-    let before = gates.len();
-    let _sum = adder(alloc, &mut gates, &a, &b, Lit::of(0))?;
-    Ok(gates.len().saturating_sub(before))
-}
-
-#[tactic(auto, using(tcl_gates::proofs::Shown::within_grown))]
-fn product_gates(alloc: Global, width: u32) -> Result<usize, AllocError> {
-    let mut gates = Gates::new(alloc);
-    let a = free_word(alloc, &mut gates, width)?;
-    let b = free_word(alloc, &mut gates, width)?;
-    let before = gates.len();
-    let _word = product(alloc, &mut gates, &a, &b)?;
-    Ok(gates.len().saturating_sub(before))
-}
-
-#[tactic(auto, using(tcl_gates::proofs::Shown::within_grown))]
-fn comparison_gates(alloc: Global, width: u32) -> Result<usize, AllocError> {
-    let mut gates = Gates::new(alloc);
-    let a = free_word(alloc, &mut gates, width)?;
-    let b = free_word(alloc, &mut gates, width)?;
-    let before = gates.len();
-    let _lit = less(alloc, &mut gates, true, &a, &b)?;
-    Ok(gates.len().saturating_sub(before))
 }

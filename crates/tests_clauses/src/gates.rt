@@ -3,7 +3,9 @@
 ghost use Rattle.std.specs.Prelude.{◌≡◌, IfOk, [], ◌∷◌, length};
 ghost use Rattle.tcl_gates.specs.Gates.{free_count};
 
+use crate::expected::holds;
 use std::alloc::{AllocError, Global};
+use std::process::Abort;
 use std::test::Fail;
 use tcl_cnf::{Clause, Cnf, Lit};
 use tcl_gates::{Gate, Gates, append_clauses, clauses_of_gates, value_of};
@@ -43,15 +45,17 @@ const ALL: &[&[u32]] = &[
     &[1, 4, 6],
 ];
 
-#[test]
-fn clauses_stand_in_the_order_of_their_gates(rt: HostRuntime) -> Result<(), Fail> {
-    let alloc = rt.alloc();
+/// Whether the clauses of a copy of that circuit are these.
+fn gives(alloc: Global, expected: &[&[u32]]) -> Result<bool, AllocError> {
     let gates = same_bit(alloc)?.copy()?;
     let cnf = clauses_of_gates(alloc, &gates)?;
-    assert!(rt;
-        are_clauses(&cnf, WHOLE),
-        "clauses in the order of their gates"
-    );
+    Ok(are_clauses(&cnf, expected))
+}
+
+#[test]
+fn clauses_stand_in_the_order_of_their_gates(rt: HostRuntime) -> Result<(), Fail> {
+    let is_so = gives(rt.alloc(), WHOLE)?;
+    holds(&rt, "clauses in the order of their gates", is_so);
     Ok(())
 }
 
@@ -73,22 +77,29 @@ fn has_all(clause: &Clause, numbers: &[u32]) -> bool {
     clause.len() == numbers.len() && numbers.iter().all(|number| clause.has(lit(*number)))
 }
 
-#[test]
-fn clauses_of_later_gates_are_appended(rt: HostRuntime) -> Result<(), Fail> {
-    let alloc = rt.alloc();
+/// Whether the clauses of that circuit's gates from each of these numbers on, one behind the other, are these.
+fn appends(alloc: Global, numbers: &[usize], expected: &[&[u32]]) -> Result<bool, AllocError> {
     let gates = same_bit(alloc)?;
     let mut cnf = Cnf::new(alloc);
-    append_clauses(alloc, &mut cnf, &gates, 2)?;
-    // The clauses of the last gate alone; none behind it; then those from the second gate on.
-    assert!(rt; are_clauses(&cnf, LAST), "the last gate's clauses");
-    append_clauses(alloc, &mut cnf, &gates, 3)?;
-    append_clauses(alloc, &mut cnf, &gates, 9)?;
-    assert!(rt; are_clauses(&cnf, LAST), "no gate, no clause");
-    append_clauses(alloc, &mut cnf, &gates, 1)?;
-    assert!(rt;
-        are_clauses(&cnf, ALL),
-        "the clauses stand behind the others"
-    );
+    for from in numbers {
+        append_clauses(alloc, &mut cnf, &gates, *from)?;
+    }
+    Ok(are_clauses(&cnf, expected))
+}
+
+// The clauses of the last gate alone; none behind it; then those from the second gate on.
+const APPENDED: &[(&str, &[usize], &[&[u32]])] = &[
+    ("the last gate's clauses", &[2], LAST),
+    ("no gate, no clause", &[2, 3, 9], LAST),
+    ("the clauses stand behind the others", &[2, 3, 9, 1], ALL),
+];
+
+#[test]
+fn clauses_of_later_gates_are_appended(rt: HostRuntime) -> Result<(), Fail> {
+    for (what, numbers, expected) in APPENDED {
+        let is_so = appends(rt.alloc(), *numbers, *expected)?;
+        holds(&rt, what, is_so);
+    }
     Ok(())
 }
 
@@ -122,21 +133,34 @@ const VALUES: &[([bool; 3], [bool; 5])] = &[
     ([true, true, true], [true, false, true, true, false]),
 ];
 
+/// The first is true, then come the free bits, then the gates.
+fn are_values(values: &[bool], free: &[bool; 3], expected: &[bool; 5]) -> bool {
+    values.len() == 9
+        && values[0]
+        && values[1..4] == free.as_slice()[..]
+        && values[4..] == expected.as_slice()[..]
+}
+
+/// Whether the variables of the circuit of every gate have these values.
+fn has_values(alloc: Global, free: &[bool; 3], expected: &[bool; 5]) -> Result<bool, AllocError> {
+    let gates = every_gate(alloc)?;
+    let values = value_of(alloc, &gates, free)?;
+    Ok(are_values(values.as_slice(), free, expected))
+}
+
+fn expect_values(rt: &impl Abort, free: &[bool; 3], is_so: bool) {
+    assert!(rt;
+        is_so,
+        "the values at {}, {}, {}",
+        free[0], free[1], free[2]
+    );
+}
+
 #[test]
 fn each_variable_has_its_gate_s_value(rt: HostRuntime) -> Result<(), Fail> {
-    let alloc = rt.alloc();
-    let gates = every_gate(alloc)?;
     for (free, expected) in VALUES {
-        let values = value_of(alloc, &gates, free)?;
-        assert!(rt; values.as_slice().len() == 9);
-        let values = values.as_slice();
-        assert!(rt; values[0], "variable 0");
-        for k in 0..3 {
-            assert_eq!(rt; values[k + 1], free[k], "free variable {k}");
-        }
-        for k in 0..5 {
-            assert_eq!(rt; values[k + 4], expected[k], "gate {k}");
-        }
+        let is_so = has_values(rt.alloc(), free, expected)?;
+        expect_values(&rt, free, is_so);
     }
     Ok(())
 }

@@ -6,4 +6,6 @@ mod circuits;
 #[cfg(test)]
 mod clauses;
 #[cfg(test)]
+mod expected;
+#[cfg(test)]
 mod gates;
