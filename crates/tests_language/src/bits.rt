@@ -35,18 +35,36 @@ fn check(rt: &impl Abort, alloc: Global, width: u32, x: u32, y: u32) -> Result<(
     requires first { x < 16 }
     requires second { y < 16 }
 {
-    for carry in [0u32, 1] {
-        let is_right = is_sum_right(alloc, width, x, y, carry)?;
-        expect(rt, is_right, "sum", width, x, y);
-    }
+    let sum = is_sum_right(alloc, width, x, y, 0)?;
+    expect(rt, sum, "sum", width, x, y);
+    let carried = is_sum_right(alloc, width, x, y, 1)?;
+    expect(rt, carried, "sum with a carry", width, x, y);
+    let unsigned = is_below(alloc, false, width, x, y)?;
+    expect(rt, unsigned == Some(x < y), "comparison", width, x, y);
+    let signed_below = is_below(alloc, true, width, x, y)?;
+    let wanted = signed(width, x) < signed(width, y);
+    expect(
+        rt,
+        signed_below == Some(wanted),
+        "signed comparison",
+        width,
+        x,
+        y,
+    );
+    Ok(())
+}
+
+// What the comparison of two words answers.
+fn is_below(
+    alloc: Global,
+    is_signed: bool,
+    width: u32,
+    x: u32,
+    y: u32,
+) -> Result<Option<bool>, AllocError> {
     let xs = word(alloc, width, x)?;
     let ys = word(alloc, width, y)?;
-    let unsigned = less(false, &xs, &ys) == Some(x < y);
-    expect(rt, unsigned, "comparison", width, x, y);
-    let is_below = signed(width, x) < signed(width, y);
-    let signed = less(true, &xs, &ys) == Some(is_below);
-    expect(rt, signed, "signed comparison", width, x, y);
-    Ok(())
+    Ok(less(is_signed, &xs, &ys))
 }
 
 fn expect(rt: &impl Abort, is_right: bool, what: &str, width: u32, x: u32, y: u32) {

@@ -145,51 +145,49 @@ const SUMS: &[(i128, i128, i128, Option<i128>)] = &[
     (5, 0, 0, Some(5)),
 ];
 
-fn expect_wrapped(rt: &impl Abort, signed: bool, width: u32, n: i128, value: i128)
+// Whether an integer wraps to the value, and is in range exactly where it is the value.
+fn is_wrapped(signed: bool, width: u32, n: i128, value: i128) -> bool
     requires positive { 0 < width }
     requires narrow { width ≤ 64 }
 {
-    assert_eq!(rt; wrap_to(signed, width, n), value, "{n} at {width} bits");
-    assert_eq!(rt;
-        in_range(signed, width, n),
-        n == value,
-        "{n} at {width} bits"
-    );
+    wrap_to(signed, width, n) == value && in_range(signed, width, n) == (n == value)
+}
+
+fn expect_wrapped(rt: &impl Abort, width: u32, n: i128, is_so: bool) {
+    assert!(rt; is_so, "{n} at {width} bits");
 }
 
 #[test]
 fn wrapped_values(rt: HostRuntime) {
     for (signed, width, n, value) in WRAPPED {
         let width = *width;
-        assert!(rt; 0 < width && width <= 64, "a width from 1 to 64");
-        if 0 < width && width <= 64 {
-            expect_wrapped(&rt, *signed, width, *n, *value);
-        }
+        let is_so = 0 < width && width <= 64 && is_wrapped(*signed, width, *n, *value);
+        expect_wrapped(&rt, width, *n, is_so);
     }
 }
 
-fn expect_product(rt: &impl Abort, a: u128, b: u128, m: u128, product: u128)
-    requires positive { 0 < m }
-    requires modulus { m ≤ 2 ^ 126 }
-{
-    assert_eq!(rt; mul_mod(a, b, m), product, "{a} * {b} modulo {m}");
+fn expect_product(rt: &impl Abort, a: u128, b: u128, m: u128, is_so: bool) {
+    assert!(rt; is_so, "{a} * {b} modulo {m}");
 }
 
 #[test]
 fn products_of_residues(rt: HostRuntime) {
     for (a, b, m, product) in PRODUCTS {
         let m = *m;
-        assert!(rt; 0 < m && m <= GREATEST, "a modulus from 1 to 2^126");
-        if 0 < m && m <= GREATEST {
-            expect_product(&rt, *a, *b, m, *product);
-        }
+        let is_so = 0 < m && m <= GREATEST && mul_mod(*a, *b, m) == *product;
+        expect_product(&rt, *a, *b, m, is_so);
     }
+}
+
+fn expect_sum(rt: &impl Abort, a: i128, b: i128, c: i128, is_so: bool) {
+    assert!(rt; is_so, "{a} + {b} * {c}");
 }
 
 // The product alone may be too great.
 #[test]
 fn sums_with_products(rt: HostRuntime) {
     for (a, b, c, sum) in SUMS {
-        assert!(rt; small_sum_with_product(a, b, c) == *sum, "{a} + {b} * {c}");
+        let is_so = small_sum_with_product(a, b, c) == *sum;
+        expect_sum(&rt, *a, *b, *c, is_so);
     }
 }

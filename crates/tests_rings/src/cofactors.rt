@@ -3,9 +3,8 @@
 ghost use Rattle.std.specs.Prelude.{◌+◌, ◌≤◌};
 ghost use Rattle.tcl_poly.specs.Polynomial.{IsOver, degree_of};
 
-use crate::expected::agree;
+use crate::expected::agrees;
 use std::alloc::{AllocError, Global};
-use std::test::Fail;
 use tcl_cofactor::{CofactorAnswer, check_cofactors};
 use tcl_list::Listing;
 use tcl_poly::{Cofactor, Poly, PolyFault, Unknown, add, degree, mul, number, scale, unknown};
@@ -96,37 +95,23 @@ fn constant_text<R: Ring>(alloc: Global, ring: &R, n: i128) -> Result<String, Po
 
 // The greatest monomial that differs is x^2 where both differ.
 #[test]
-fn greatest_difference(rt: HostRuntime) -> Result<(), Fail> {
+fn greatest_difference(rt: HostRuntime) {
     let alloc = rt.alloc();
     let binary = Residue { modulus: 2 };
-    agree(&rt, square_text(alloc, &Whole, &1, &1)?.as_str(), "equal");
-    agree(&rt, square_text(alloc, &binary, &3, &1)?.as_str(), "equal");
-    agree(
-        &rt,
-        square_text(alloc, &Whole, &2, &3)?.as_str(),
-        "differs 2 1",
-    );
-    agree(
-        &rt,
-        square_text(alloc, &binary, &1, &2)?.as_str(),
-        "differs 2 2",
-    );
-    Ok(())
+    agrees(&rt, square_text(alloc, &Whole, &1, &1), "equal");
+    agrees(&rt, square_text(alloc, &binary, &3, &1), "equal");
+    agrees(&rt, square_text(alloc, &Whole, &2, &3), "differs 2 1");
+    agrees(&rt, square_text(alloc, &binary, &1, &2), "differs 2 2");
 }
 
 // 2^126 * 2 is at the bound, and 2^126 * 1 below it; over residues there is no bound.
 #[test]
-fn width_at_the_bound(rt: HostRuntime) -> Result<(), Fail> {
+fn width_at_the_bound(rt: HostRuntime) {
     let alloc = rt.alloc();
     let mersenne = Residue {
         modulus: 2_305_843_009_213_693_951,
     };
-    agree(&rt, constant_text(alloc, &Whole, 2)?.as_str(), "wide");
-    agree(&rt, constant_text(alloc, &Whole, 1)?.as_str(), "equal");
-    agree(
-        &rt,
-        constant_text(alloc, &mersenne, 2)?.as_str(),
-        "differs 0 0",
-    );
-    Ok(())
+    agrees(&rt, constant_text(alloc, &Whole, 2), "wide");
+    agrees(&rt, constant_text(alloc, &Whole, 1), "equal");
+    agrees(&rt, constant_text(alloc, &mersenne, 2), "differs 0 0");
 }

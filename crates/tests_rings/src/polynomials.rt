@@ -3,10 +3,9 @@
 ghost use Rattle.std.specs.Prelude.{Some, IfOk};
 ghost use Rattle.tcl_poly.specs.Polynomial.{IsOver};
 
-use crate::expected::{agree, holds};
+use crate::expected::{agrees, holds};
 use crate::naming::write_terms;
 use std::alloc::{AllocError, Global};
-use std::test::Fail;
 use tcl_poly::{
     Poly, PolyFault, Unknown, add, add_multiple, degree, is_zero, mul, negated, norm, number,
     raised, scale, sum, unknown, variable_key,
@@ -49,24 +48,14 @@ fn fourth_text<R: Ring>(alloc: Global, ring: &R) -> Result<String, PolyFault> {
 
 // (x + y)^4 by the binomial theorem; the key of the line's unknown is 2^32 + 1.
 #[test]
-fn fourth_powers(rt: HostRuntime) -> Result<(), Fail> {
+fn fourth_powers(rt: HostRuntime) {
     let alloc = rt.alloc();
-    agree(
-        &rt,
-        fourth_text(alloc, &Whole)?.as_str(),
-        "1 0^4;4 0^3 4294967297^1;6 0^2 4294967297^2;4 0^1 4294967297^3;1 4294967297^4;",
-    );
-    agree(
-        &rt,
-        fourth_text(alloc, &Residue { modulus: 2 })?.as_str(),
-        "1 0^4;1 4294967297^4;",
-    );
-    agree(
-        &rt,
-        fourth_text(alloc, &Residue { modulus: 1 })?.as_str(),
-        "0",
-    );
-    Ok(())
+    let whole = "1 0^4;4 0^3 4294967297^1;6 0^2 4294967297^2;4 0^1 4294967297^3;1 4294967297^4;";
+    agrees(&rt, fourth_text(alloc, &Whole), whole);
+    let binary = Residue { modulus: 2 };
+    agrees(&rt, fourth_text(alloc, &binary), "1 0^4;1 4294967297^4;");
+    let null = Residue { modulus: 1 };
+    agrees(&rt, fourth_text(alloc, &null), "0");
 }
 
 // The norm of a result, and whether it is zero.
@@ -173,22 +162,14 @@ fn nothing_text(alloc: Global, ring: &Residue) -> Result<String, PolyFault> {
 
 // (x + 1)^3 by the binomial theorem, its negation.
 #[test]
-fn powers_and_negations(rt: HostRuntime) -> Result<(), Fail> {
+fn powers_and_negations(rt: HostRuntime) {
     let alloc = rt.alloc();
     let ring = Residue { modulus: 3329 };
-    agree(
-        &rt,
-        cube_text(alloc, &ring)?.as_str(),
-        "1 0^3;3 0^2;3 0^1;1;",
-    );
-    agree(
-        &rt,
-        negation_text(alloc, &ring)?.as_str(),
-        "3328 0^3;3326 0^2;3326 0^1;3328;",
-    );
-    agree(&rt, power_of_none_text(alloc, &ring)?.as_str(), "1;");
-    agree(&rt, nothing_text(alloc, &ring)?.as_str(), "0");
-    Ok(())
+    agrees(&rt, cube_text(alloc, &ring), "1 0^3;3 0^2;3 0^1;1;");
+    let negation = "3328 0^3;3326 0^2;3326 0^1;3328;";
+    agrees(&rt, negation_text(alloc, &ring), negation);
+    agrees(&rt, power_of_none_text(alloc, &ring), "1;");
+    agrees(&rt, nothing_text(alloc, &ring), "0");
 }
 
 // The size of a + n b.
@@ -222,16 +203,10 @@ fn multiple_text(alloc: Global, ring: &Residue, n: i128) -> Result<String, PolyF
 
 // Modulo a composite number the product may vanish.
 #[test]
-fn multiples_that_vanish(rt: HostRuntime) -> Result<(), Fail> {
-    let alloc = rt.alloc();
+fn multiples_that_vanish(rt: HostRuntime) {
     let ring = Residue { modulus: 12 };
-    agree(&rt, multiple_text(alloc, &ring, 4)?.as_str(), "1 1^1;");
-    agree(
-        &rt,
-        multiple_text(alloc, &ring, 3)?.as_str(),
-        "9 0^1;1 1^1;",
-    );
-    Ok(())
+    agrees(&rt, multiple_text(rt.alloc(), &ring, 4), "1 1^1;");
+    agrees(&rt, multiple_text(rt.alloc(), &ring, 3), "9 0^1;1 1^1;");
 }
 
 // The key 0 is free, and lines come after all variables.

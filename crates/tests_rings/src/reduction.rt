@@ -8,11 +8,10 @@ ghost use Rattle.tcl_reduce.specs.Answer.{definitions_of};
 ghost use Rattle.tcl_reduce.specs.Definitions.{AreRising};
 ghost use Rattle.tcl_reduce.specs.Remainder.{AreDefinitions};
 
-use crate::expected::{agree, holds};
+use crate::expected::{agrees, holds};
 use crate::naming::write_terms;
 use std::alloc::{AllocError, Global};
 use std::process::Abort;
-use std::test::Fail;
 use tcl_poly::{Cofactors, Poly, PolyFault, Unknown, add, degree, mul, number, power, terms, zero};
 use tcl_port::{At, What};
 use tcl_reduce::{Definition, Defs, Plain, plain};
@@ -100,38 +99,68 @@ fn define<R: Ring>(
     Ok(())
 }
 
+fn write_equation(text: &mut String, equation: u32) -> Result<(), AllocError> {
+    write!(text, " {equation}: ")
+}
+
 fn write_cofactors<R: Ring>(
     text: &mut String,
     ring: &R,
     cofactors: &Cofactors<R>,
 ) -> Result<(), AllocError> {
     for cofactor in cofactors.as_slice() {
-        write!(&mut *text, " {}: ", cofactor.equation)?;
+        write_equation(text, cofactor.equation)?;
         write_terms(text, ring, &cofactor.poly)?;
     }
     Ok(())
 }
 
-fn text_of<R: Ring>(alloc: Global, ring: &R, answer: &Plain<R>) -> Result<String, AllocError> {
-    let mut text = String::new(alloc);
-    match answer {
-        Plain::Zero(cofactors, _) => {
-            text.push_str("zero")?;
-            write_cofactors(&mut text, ring, cofactors)?;
-        }
-        Plain::Rest(rest, cofactors, _) => {
-            text.push_str("rest ")?;
-            write_terms(&mut text, ring, rest)?;
-            write_cofactors(&mut text, ring, cofactors)?;
-        }
-        Plain::Wide(At::Line(place)) => write!(&mut text, "wide {place}")?,
-        Plain::Wide(At::Claim) => text.push_str("wide claim")?,
-        Plain::Large(What::Degree, n) => write!(&mut text, "large degree {n}")?,
-        Plain::Large(What::Terms, n) => write!(&mut text, "large terms {n}")?,
-        Plain::Large(What::Clauses, n) => write!(&mut text, "large clauses {n}")?,
-        Plain::Memory => text.push_str("memory")?,
-    }
+fn zero_text<R: Ring>(
+    alloc: Global,
+    ring: &R,
+    cofactors: &Cofactors<R>,
+) -> Result<String, AllocError> {
+    let mut text = String::from_str(alloc, "zero")?;
+    write_cofactors(&mut text, ring, cofactors)?;
     Ok(text)
+}
+
+fn rest_text<R: Ring>(
+    alloc: Global,
+    ring: &R,
+    rest: &Poly<R>,
+    cofactors: &Cofactors<R>,
+) -> Result<String, AllocError> {
+    let mut text = String::from_str(alloc, "rest ")?;
+    write_terms(&mut text, ring, rest)?;
+    write_cofactors(&mut text, ring, cofactors)?;
+    Ok(text)
+}
+
+fn wide_text(alloc: Global, at: At) -> Result<String, AllocError> {
+    match at {
+        At::Line(place) => format!(in alloc; "wide {place}"),
+        At::Claim => String::from_str(alloc, "wide claim"),
+    }
+}
+
+fn large_text(alloc: Global, what: What, n: u32) -> Result<String, AllocError> {
+    let what = match what {
+        What::Degree => "degree",
+        What::Terms => "terms",
+        What::Clauses => "clauses",
+    };
+    format!(in alloc; "large {what} {n}")
+}
+
+fn text_of<R: Ring>(alloc: Global, ring: &R, answer: &Plain<R>) -> Result<String, AllocError> {
+    match answer {
+        Plain::Zero(cofactors, _) => zero_text(alloc, ring, cofactors),
+        Plain::Rest(rest, cofactors, _) => rest_text(alloc, ring, rest, cofactors),
+        Plain::Wide(at) => wide_text(alloc, *at),
+        Plain::Large(what, n) => large_text(alloc, *what, *n),
+        Plain::Memory => String::from_str(alloc, "memory"),
+    }
 }
 
 fn reduced<R: Ring>(
@@ -190,12 +219,10 @@ fn ring_of(modulus: u128) -> Result<Residue, PolyFault> {
 }
 
 // What is left over the integers is what each case says.
-fn expect_cases(rt: &impl Abort, alloc: Global, cases: &[Case]) -> Result<(), PolyFault> {
+fn expect_cases(rt: &impl Abort, alloc: Global, cases: &[Case]) {
     for (rows, f, wanted) in cases {
-        let made = reduce(alloc, &Whole, rows, f)?;
-        agree(rt, made.as_str(), wanted);
+        agrees(rt, reduce(alloc, &Whole, rows, f), wanted);
     }
-    Ok(())
 }
 
 // Montgomery reduction modulo 3329, a butterfly, and a cast: the polynomials of their goals, with the unknowns of lines
@@ -250,14 +277,21 @@ const GOALS: &[(u128, &[Row], &[Term], &str)] = &[
     ),
 ];
 
+fn reduce_modulo(
+    alloc: Global,
+    modulus: u128,
+    rows: &[Row],
+    f: &[Term],
+) -> Result<String, PolyFault> {
+    let ring = ring_of(modulus)?;
+    reduce(alloc, &ring, rows, f)
+}
+
 #[test]
-fn goals_of_programs(rt: HostRuntime) -> Result<(), Fail> {
+fn goals_of_programs(rt: HostRuntime) {
     for (modulus, rows, f, wanted) in GOALS {
-        let ring = ring_of(*modulus)?;
-        let made = reduce(rt.alloc(), &ring, rows, f)?;
-        agree(&rt, made.as_str(), wanted);
+        agrees(&rt, reduce_modulo(rt.alloc(), *modulus, rows, f), wanted);
     }
-    Ok(())
 }
 
 const NEXT: Row = (4, 1, &[(1, (0, 1), (0, 0)), (1, (0, 0), (0, 0))]);
@@ -299,13 +333,10 @@ const SUBSTITUTIONS: &[Case] = &[
 ];
 
 #[test]
-fn substitutions(rt: HostRuntime) -> Result<(), Fail> {
-    let alloc = rt.alloc();
-    expect_cases(&rt, alloc, SUBSTITUTIONS)?;
-    let null = Residue { modulus: 1 };
-    let made = reduce(alloc, &null, &[NEXT], &[(1, (1, 1), (0, 0))])?;
-    agree(&rt, made.as_str(), "zero");
-    Ok(())
+fn substitutions(rt: HostRuntime) {
+    expect_cases(&rt, rt.alloc(), SUBSTITUTIONS);
+    let made = reduce_modulo(rt.alloc(), 1, &[NEXT], &[(1, (1, 1), (0, 0))]);
+    agrees(&rt, made, "zero");
 }
 
 const SAME: Row = (9, 1, &[(1, (0, 1), (0, 0)), NONE]);
@@ -350,9 +381,8 @@ const WIDTHS: &[Case] = &[
 ];
 
 #[test]
-fn widths(rt: HostRuntime) -> Result<(), Fail> {
-    expect_cases(&rt, rt.alloc(), WIDTHS)?;
-    Ok(())
+fn widths(rt: HostRuntime) {
+    expect_cases(&rt, rt.alloc(), WIDTHS);
 }
 
 const HIGH: Row = (6, 1, &[(1, (0, 1024), (0, 0)), NONE]);
@@ -372,11 +402,10 @@ fn square_of_the_greatest(alloc: Global) -> Result<String, PolyFault> {
 }
 
 #[test]
-fn degrees(rt: HostRuntime) -> Result<(), Fail> {
-    expect_cases(&rt, rt.alloc(), DEGREES)?;
-    let made = square_of_the_greatest(rt.alloc())?;
-    agree(&rt, made.as_str(), "large degree 4294967295");
-    Ok(())
+fn degrees(rt: HostRuntime) {
+    expect_cases(&rt, rt.alloc(), DEGREES);
+    let made = square_of_the_greatest(rt.alloc());
+    agrees(&rt, made, "large degree 4294967295");
 }
 
 fn sum_of_variables<R: Ring>(
@@ -416,26 +445,29 @@ const SPENT: &[(&[Row], &[Term], u128)] = &[
     (&[BEFORE], &[(1, (1, 1), (0, 0)), (-1, (0, 1), (0, 0))], 4),
 ];
 
-fn spent_in<R: Ring>(alloc: Global, ring: &R, rows: &[Row], f: &[Term]) -> Result<u128, PolyFault> {
-    Ok(spent(&reduced(alloc, ring, rows, f)?))
+// Whether so much was spent.
+fn spends<R: Ring>(alloc: Global, ring: &R, rows: &[Row], f: &[Term], wanted: u128) -> bool {
+    match reduced(alloc, ring, rows, f) {
+        Ok(answer) => spent(&answer) == wanted,
+        Err(_) => false,
+    }
 }
 
 #[test]
-fn bounds_that_were_spent(rt: HostRuntime) -> Result<(), Fail> {
+fn bounds_that_were_spent(rt: HostRuntime) {
     for (rows, f, wanted) in SPENT {
-        let spent = spent_in(rt.alloc(), &Whole, rows, f)?;
-        holds(&rt, "a bound that was spent", spent == *wanted);
+        let is_so = spends(rt.alloc(), &Whole, rows, f, *wanted);
+        holds(&rt, "a bound that was spent", is_so);
     }
-    Ok(())
 }
 
 // Modulo 2^126 what was spent is not above 2^127.
 #[test]
-fn bounds_of_residues(rt: HostRuntime) -> Result<(), Fail> {
+fn bounds_of_residues(rt: HostRuntime) {
     let ring = Residue { modulus: 1 << 126 };
-    let spent = spent_in(rt.alloc(), &ring, &[BEFORE], &[(1 << 125, (1, 4), (0, 0))])?;
-    holds(&rt, "the greatest bound", spent == 1 << 127);
-    Ok(())
+    let f = [(1 << 125, (1, 4), (0, 0))];
+    let is_so = spends(rt.alloc(), &ring, &[BEFORE], &f, 1 << 127);
+    holds(&rt, "the greatest bound", is_so);
 }
 
 fn terms_left(answer: &Plain<Whole>) -> usize {
@@ -475,19 +507,18 @@ fn text_of_fourth_power(alloc: Global) -> Result<String, PolyFault> {
     Ok(text_of(alloc, &Whole, &with_a_long_sum(alloc, &fourth)?)?)
 }
 
-fn terms_of_product(alloc: Global) -> Result<usize, PolyFault> {
+fn has_fewer_terms(alloc: Global) -> Result<bool, PolyFault> {
     let product = long_product(alloc)?;
-    Ok(terms_left(&with_a_long_sum(alloc, &product)?))
+    Ok(terms_left(&with_a_long_sum(alloc, &product)?) == 32_896)
 }
 
 // 256 terms times 256 terms and one more, of which fewer are left when like terms are merged; and 256^4.
 #[test]
-fn numbers_of_terms(rt: HostRuntime) -> Result<(), Fail> {
-    let more = text_of_product_and_more(rt.alloc())?;
-    agree(&rt, more.as_str(), "large terms 65537");
-    let fourth = text_of_fourth_power(rt.alloc())?;
-    agree(&rt, fourth.as_str(), "large terms 4294967295");
-    let left = terms_of_product(rt.alloc())?;
-    holds(&rt, "fewer terms are left", left == 32_896);
-    Ok(())
+fn numbers_of_terms(rt: HostRuntime) {
+    let more = text_of_product_and_more(rt.alloc());
+    agrees(&rt, more, "large terms 65537");
+    let fourth = text_of_fourth_power(rt.alloc());
+    agrees(&rt, fourth, "large terms 4294967295");
+    let left = has_fewer_terms(rt.alloc());
+    holds(&rt, "fewer terms are left", matches!(left, Ok(true)));
 }

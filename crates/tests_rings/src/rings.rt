@@ -176,75 +176,99 @@ const ROWS: &[Row] = &[
     },
 ];
 
-fn expect(rt: &impl Abort, call: &str, row: &Row, is_so: bool) {
+fn expect(rt: &impl Abort, row: &Row, call: &str) {
     assert!(rt;
-        is_so,
+        call.is_empty(),
         "{call} at {} and {} modulo {}",
-        row.a, row.b, row.modulus
+        row.a,
+        row.b,
+        row.modulus
     );
 }
 
-fn expect_row(rt: &impl Abort, row: &Row)
+// The first call that does not answer as the row says, or nothing.
+fn wrong_call(row: &Row) -> &'static str
     requires positive { 0 < row.now.modulus }
     requires narrow { row.now.modulus ≤ 2 ^ 126 }
 {
     let ring = Residue {
         modulus: row.modulus,
     };
-    let (a, b) = (row.a, row.b);
-    expect(rt, "add", row, ring.add(&a, &b) == Ok(row.sum));
-    expect(rt, "mul", row, ring.mul(&a, &b) == Ok(row.product));
-    expect(rt, "neg", row, ring.neg(&a) == Ok(row.negation));
-    expect(rt, "inverse", row, ring.inverse(&a) == row.inverse);
-    let both = ring.add_product(&a, &b, &a);
-    expect(rt, "add_product", row, both == Ok(row.sum_with_product));
+    if ring.add(&row.a, &row.b) != Ok(row.sum) {
+        "add"
+    } else if ring.mul(&row.a, &row.b) != Ok(row.product) {
+        "mul"
+    } else if ring.neg(&row.a) != Ok(row.negation) {
+        "neg"
+    } else if ring.inverse(&row.a) != row.inverse {
+        "inverse"
+    } else if ring.add_product(&row.a, &row.b, &row.a) != Ok(row.sum_with_product) {
+        "add_product"
+    } else {
+        ""
+    }
 }
 
 #[test]
 fn residues(rt: HostRuntime) {
     for row in ROWS {
         let modulus = row.modulus;
-        assert!(rt;
-            0 < modulus && modulus <= GREATEST,
-            "a modulus from 1 to 2^126"
-        );
         if 0 < modulus && modulus <= GREATEST {
-            expect_row(&rt, row);
+            expect(&rt, row, wrong_call(row));
+        } else {
+            expect(&rt, row, "no modulus");
         }
     }
 }
 
-fn expect_sum(rt: &impl Abort, a: i128, b: i128, wanted: Result<i128, Wide>) {
-    holds(rt, "a sum", Whole.add(&a, &b) == wanted);
+// Two integers and their sum.
+const SUMS: &[(i128, i128, Result<i128, Wide>)] = &[
+    (1 << 126, 1 << 126, Err(Wide)),
+    (-(1 << 126), -(1 << 126), Err(Wide)),
+    (1 << 126, (1 << 126) - 1, Ok(i128::MAX)),
+];
+
+// Two integers and their product.
+const PRODUCTS: &[(i128, i128, Result<i128, Wide>)] = &[
+    (1 << 126, -2, Err(Wide)),
+    (1 << 64, 1 << 62, Ok(1 << 126)),
+];
+
+// Three integers, and the first plus the product of the others.
+const SUMS_WITH_PRODUCTS: &[(i128, i128, i128, Result<i128, Wide>)] = &[
+    (-(1 << 126), 1 << 64, 1 << 62, Ok(0)),
+    (1 << 126, 1 << 64, 1 << 62, Err(Wide)),
+    (-1, 1 << 126, 2, Ok(i128::MAX)),
+    (0, 1 << 126, 2, Err(Wide)),
+];
+
+#[test]
+fn sums_of_integers(rt: HostRuntime) {
+    for (a, b, wanted) in SUMS {
+        holds(&rt, "a sum", Whole.add(a, b) == *wanted);
+    }
 }
 
-fn expect_product(rt: &impl Abort, a: i128, b: i128, wanted: Result<i128, Wide>) {
-    holds(rt, "a product", Whole.mul(&a, &b) == wanted);
+#[test]
+fn products_of_integers(rt: HostRuntime) {
+    for (a, b, wanted) in PRODUCTS {
+        holds(&rt, "a product", Whole.mul(a, b) == *wanted);
+    }
 }
 
-fn expect_sum_with_product(rt: &impl Abort, a: i128, b: i128, c: i128, wanted: Result<i128, Wide>) {
-    holds(
-        rt,
-        "a sum with a product",
-        Whole.add_product(&a, &b, &c) == wanted,
-    );
+#[test]
+fn sums_with_products_of_integers(rt: HostRuntime) {
+    for (a, b, c, wanted) in SUMS_WITH_PRODUCTS {
+        let is_so = Whole.add_product(a, b, c) == *wanted;
+        holds(&rt, "a sum with a product", is_so);
+    }
 }
 
 // The greatest magnitude is 2^127 - 1, so the least `i128` is outside.
 #[test]
 fn edges_of_the_integers(rt: HostRuntime) {
-    let half = 1i128 << 126;
     holds(&rt, "-2^127", Whole.number(i128::MIN) == Err(Wide));
     holds(&rt, "2^127 - 1", Whole.number(i128::MAX) == Ok(i128::MAX));
-    expect_sum(&rt, half, half, Err(Wide));
-    expect_sum(&rt, -half, -half, Err(Wide));
-    expect_sum(&rt, half, half - 1, Ok(i128::MAX));
-    expect_product(&rt, half, -2, Err(Wide));
-    expect_product(&rt, 1 << 64, 1 << 62, Ok(half));
     holds(&rt, "the inverse of -1", Whole.inverse(&-1) == Some(-1));
     holds(&rt, "no inverse of 2", Whole.inverse(&2) == None);
-    expect_sum_with_product(&rt, -half, 1 << 64, 1 << 62, Ok(0));
-    expect_sum_with_product(&rt, half, 1 << 64, 1 << 62, Err(Wide));
-    expect_sum_with_product(&rt, -1, half, 2, Ok(i128::MAX));
-    expect_sum_with_product(&rt, 0, half, 2, Err(Wide));
 }

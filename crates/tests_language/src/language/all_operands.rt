@@ -99,7 +99,7 @@ fn takes_words(op: Op, ty: Ty, amount: u32, a: i128, b: i128, c: i128) -> bool
         && may_stand(None, c)
 }
 
-fn has_operands(op: Op, ty: Ty, amount: u32, a: i128, b: i128, c: i128) -> bool
+pub(super) fn has_operands(op: Op, ty: Ty, amount: u32, a: i128, b: i128, c: i128) -> bool
     ensures { result ≡ operands.has_operands op ty amount a b c }
 {
     takes_words(op, ty, amount, a, b, c)
@@ -123,14 +123,33 @@ pub(super) fn answer(op: Op, ty: Ty, amount: u32, a: i128, b: i128, c: i128) -> 
     }
 }
 
-const VALUES: [i128; 16] = [-8, -7, -6, -5, -4, -3, -2, -1, 0, 1, 2, 3, 4, 5, 6, 7];
+const VALUES: &[i128] = &[-8, -7, -6, -5, -4, -3, -2, -1, 0, 1, 2, 3, 4, 5, 6, 7];
 
 // The values that are tried for operand k; one where there is no operand k.
 fn values(op: Op, k: usize) -> &'static [i128] {
-    if k < op.operand_count() {
-        &VALUES
-    } else {
-        &[0]
+    if k < op.operand_count() { VALUES } else { &[0] }
+}
+
+fn write_results(text: &mut String, results: Results) -> Result<(), AllocError> {
+    match results {
+        Results::One(x) => write!(text, " {x}"),
+        Results::Two(x, y) => write!(text, " {x},{y}"),
+    }
+}
+
+// The results where the operands are such as the instruction takes, and else nothing.
+fn write_answer(
+    text: &mut String,
+    op: Op,
+    ty: Ty,
+    amount: u32,
+    a: i128,
+    b: i128,
+    c: i128,
+) -> Result<(), AllocError> {
+    match answer(op, ty, amount, a, b, c) {
+        Some(results) => write_results(text, results),
+        None => Ok(()),
     }
 }
 
@@ -138,12 +157,7 @@ fn values(op: Op, k: usize) -> &'static [i128] {
 fn write_row(text: &mut String, op: Op, ty: Ty, amount: u32, a: i128) -> Result<(), AllocError> {
     for b in values(op, 1) {
         for c in values(op, 2) {
-            if has_operands(op, ty, amount, a, *b, *c) {
-                match results_at(op, ty, amount, a, *b, *c) {
-                    Results::One(x) => write!(text, " {x}")?,
-                    Results::Two(x, y) => write!(text, " {x},{y}")?,
-                }
-            }
+            write_answer(text, op, ty, amount, a, *b, *c)?;
         }
     }
     Ok(())
@@ -151,42 +165,54 @@ fn write_row(text: &mut String, op: Op, ty: Ty, amount: u32, a: i128) -> Result<
 
 // A row for each value of the first operand, or one row in all where there is no second operand.
 fn write_rows(text: &mut String, op: Op, ty: Ty, amount: u32) -> Result<(), AllocError> {
+    let before = if op.operand_count() > 1 { "\n" } else { "" };
     for a in VALUES {
-        if has_operands(op, ty, amount, a, 0, 0) {
-            if op.operand_count() > 1 {
-                writeln!(text)?;
-            }
-            write_row(text, op, ty, amount, a)?;
+        if has_operands(op, ty, amount, *a, 0, 0) {
+            text.push_str(before)?;
+            write_row(text, op, ty, amount, *a)?;
         }
     }
-    writeln!(text)?;
-    Ok(())
+    text.push_str("\n")
+}
+
+fn write_type(text: &mut String, ty: Ty) -> Result<(), AllocError> {
+    let sign = if ty.signed { 's' } else { 'u' };
+    write!(text, "{sign}{}", ty.width)
+}
+
+// The rows of an amount.
+fn write_amount(text: &mut String, op: Op, ty: Ty, amount: u32) -> Result<(), AllocError> {
+    if !allows_amount(op, ty, amount) {
+        return Ok(());
+    }
+    write_type(text, ty)?;
+    write!(text, " {amount}:")?;
+    write_rows(text, op, ty, amount)
 }
 
 fn write_all(text: &mut String, op: Op, ty: Ty) -> Result<(), AllocError> {
-    let sign = if ty.signed { 's' } else { 'u' };
     match op {
         Op::Shl | Op::Split => {
             for amount in 0..3u32 {
-                if allows_amount(op, ty, amount) {
-                    write!(text, "{sign}{} {amount}:", ty.width)?;
-                    write_rows(text, op, ty, amount)?;
-                }
+                write_amount(text, op, ty, amount)?;
             }
+            Ok(())
         }
         _ => {
-            write!(text, "{sign}{}:", ty.width)?;
-            write_rows(text, op, ty, 0)?;
+            write_type(text, ty)?;
+            text.push_str(":")?;
+            write_rows(text, op, ty, 0)
         }
     }
-    Ok(())
 }
+
+const TYPES: &[Ty] = &[U1, U2, U3, S2, S3];
 
 fn text_of(alloc: Global, op: Op) -> Result<String, AllocError> {
     let mut text = String::new(alloc);
-    for ty in [U1, U2, U3, S2, S3] {
-        if allows(op, ty) {
-            write_all(&mut text, op, ty)?;
+    for ty in TYPES {
+        if allows(op, *ty) {
+            write_all(&mut text, op, *ty)?;
         }
     }
     Ok(text)
