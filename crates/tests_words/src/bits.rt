@@ -1,6 +1,6 @@
 // Words of free bits, and the values of gates.
 
-ghost use Rattle.std.specs.Prelude.{IfOk, ◌≤◌, length};
+ghost use Rattle.std.specs.Prelude.{◌≡◌, IfOk, ◌≤◌, length};
 ghost use Rattle.tcl_gates.specs.Meaning.{AreWithin};
 
 use std::alloc::{AllocError, Global};
@@ -13,6 +13,7 @@ use tcl_gates::{Gate, Gates};
 pub(crate) fn free_word(alloc: Global, gates: &mut Gates, width: u32) -> Result<Lits, AllocError>
     ensures within { IfOk result (λ word. AreWithin (length gates.new) word) }
     ensures longer { length gates.old ≤ length gates.new }
+    ensures count { IfOk result (λ word. length word ≡ width) }
 {
     let mut word = Lits::new(alloc);
     for k in 0..width {

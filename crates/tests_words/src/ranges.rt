@@ -1,6 +1,6 @@
 // Random range predicates at random operands: the values of their gates against the truth of their lines in a run.
 
-ghost use Rattle.std.specs.Prelude.{◌≤◌, IfOk, IfSome, OnOk, length};
+ghost use Rattle.std.specs.Prelude.{◌≡◌, ◌≤◌, IfOk, IfSome, OnOk, length, map};
 ghost use Rattle.tcl_lang.specs.Values.{AreValues};
 ghost use Rattle.tcl_words.specs.Ranges.{AllWithin};
 
@@ -38,19 +38,22 @@ fn program(alloc: Global, source: &mut Source) -> Result<String, AllocError> {
     Ok(text)
 }
 
-fn found_form(alloc: Global, text: &str) -> Option<Ssa> {
+pub(crate) fn found_form(alloc: Global, text: &str) -> Option<Ssa> {
     let parsed = parse(alloc, text.as_bytes()).ok()?;
     let typed = check(alloc, parsed).ok()?;
     ssa(alloc, &typed).ok()
 }
 
 // A word of free bits for each variable.
-#[tactic(auto, using(crate::proofs::WordLists::all_within_none, crate::proofs::WordLists::all_within_push, tcl_words::proofs::Parts::all_within_grown))]
-fn free_words(alloc: Global, gates: &mut Gates, form: &Ssa) -> Result<Words, AllocError>
-    ensures { IfOk result (λ words. AllWithin (length gates.new) words) }
+#[tactic(auto, using(crate::proofs::WordLists::all_within_none, crate::proofs::WordLists::all_within_push, crate::proofs::WordLists::widths_push, tcl_words::proofs::Parts::all_within_grown))]
+pub(crate) fn free_words(alloc: Global, gates: &mut Gates, form: &Ssa) -> Result<Words, AllocError>
+    ensures within { IfOk result (λ words. AllWithin (length gates.new) words) }
+    ensures widths { IfOk result (λ words. map length words ≡ map (λ v. v.ty.width) form.now.variables) }
+    ensures count { IfOk result (λ words. length words ≡ length form.now.variables) }
 {
     let mut words = Words::new(alloc);
-    for variable in form.variables().as_slice() {
+    let variables = form.variables().as_slice();
+    for variable in variables {
         let word = free_word(alloc, gates, variable.ty.width)?;
         words.push(word)?;
     }

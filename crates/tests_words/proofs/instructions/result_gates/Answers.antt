@@ -1,0 +1,6 @@
+-- Each word is as wide as its variable.
+use Rattle.tests_words.proofs.WordLists.{have_widths}
+use Rattle.tests_words.proofs.instructions.result_gates.Goals as goal
+
+pub instruction-requires-clause-widths : goal.instruction-requires-clause-widths
+instruction-requires-clause-widths c = have_widths c.in_ok-words.words c.args.form.now.variables _ c.in_ok-words.ensures.widths
