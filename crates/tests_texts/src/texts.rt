@@ -1,8 +1,7 @@
 // Texts with the first fault that the parser finds in them. The answers were made by the reference's `parse` command.
 
-use crate::expected::holds;
+use crate::expected::{agree, holds};
 use std::alloc::{AllocError, Global};
-use std::process::Abort;
 use std::test::Fail;
 use tcl_lang::Parsed;
 use tcl_parse::{ParseFault, parse};
@@ -19,27 +18,30 @@ fn limit_word(limit: Limit) -> &'static str {
     }
 }
 
-// The first word of the answer, and the line that it names, 0 where it names none.
-fn answer(alloc: Global, text: &[u8]) -> (&'static str, u64) {
+// The first word of the answer, and the line that it names where it names one.
+fn answer(alloc: Global, text: &[u8]) -> Result<String, AllocError> {
     match parse(alloc, text) {
-        Ok(_) => ("ok", 0),
-        Err(ParseFault::Text(number)) => ("text", number),
-        Err(ParseFault::Shape(number)) => ("shape", number),
-        Err(ParseFault::Limit(limit)) => (limit_word(limit), 0),
-        Err(ParseFault::Memory) => ("memory", 0),
+        Ok(_) => String::from_str(alloc, "ok"),
+        Err(ParseFault::Text(number)) => format!(in alloc; "text {number}"),
+        Err(ParseFault::Shape(number)) => format!(in alloc; "shape {number}"),
+        Err(ParseFault::Limit(limit)) => String::from_str(alloc, limit_word(limit)),
+        Err(ParseFault::Memory) => String::from_str(alloc, "memory"),
     }
 }
 
-fn is_answered(alloc: Global, text: &[u8], word: &str, number: u64) -> bool {
-    let (first, line) = answer(alloc, text);
-    first == word && line == number
+// How many times the piece in braces stands, and what stands before, in and behind the braces.
+fn repetition(row: &str) -> Option<(u64, &str, &str, &str)> {
+    let (before, rest) = row.split_once('{')?;
+    let (piece, behind) = rest.split_once('}')?;
+    let (times, before) = before.split_once(": ")?;
+    Some((times.parse::<u64>().ok()?, before, piece, behind))
 }
 
 fn repeated(
     alloc: Global,
+    times: u64,
     before: &str,
     piece: &str,
-    times: u64,
     behind: &str,
 ) -> Result<String, AllocError> {
     let mut text = String::new(alloc);
@@ -51,365 +53,294 @@ fn repeated(
     Ok(text)
 }
 
-// Texts, each with the word of its answer and the line that it names.
-fn expect_answers(rt: &impl Abort, alloc: Global, table: &[(&str, &str, u64)]) {
-    for (text, word, number) in table {
-        let is_so = is_answered(alloc, text.as_bytes(), word, *number);
-        holds(rt, text, is_so);
+// A row with its piece as many times as it says.
+fn expanded(alloc: Global, row: &str) -> Result<String, AllocError> {
+    match repetition(row) {
+        Some((times, before, piece, behind)) => repeated(alloc, times, before, piece, behind),
+        None => String::from_str(alloc, row),
     }
 }
 
-// A beginning, a piece and how many times it stands, an end, the word of the answer and the line that it names.
-type Repeated = (
-    &'static str,
-    &'static str,
-    u64,
-    &'static str,
-    &'static str,
-    u64,
-);
-
-fn is_answered_repeated(alloc: Global, row: &Repeated) -> Result<bool, AllocError> {
-    let text = repeated(alloc, row.0, row.1, row.2, row.3)?;
-    Ok(is_answered(alloc, text.as_str().as_bytes(), row.4, row.5))
+// The text of a row, in which `/` is the end of a line.
+fn text_of(alloc: Global, row: &str) -> Result<String, AllocError> {
+    let mut text = String::new(alloc);
+    for letter in row.chars() {
+        text.push(if letter == '/' { '\n' } else { letter })?;
+    }
+    Ok(text)
 }
 
-fn expect_repeated(rt: &impl Abort, alloc: Global, table: &[Repeated]) -> Result<(), AllocError> {
-    for row in table {
-        let is_so = is_answered_repeated(alloc, row)?;
-        holds(rt, row.1, is_so);
+fn answer_to_row(alloc: Global, row: &str) -> Result<String, AllocError> {
+    let row = expanded(alloc, row)?;
+    let text = text_of(alloc, row.as_str())?;
+    answer(alloc, text.as_str().as_bytes())
+}
+
+// Lines of texts.
+const LINES: &str = "\
+end -> ok
+ -> shape 1
+end/ -> ok
+end\r/ -> ok
+end\r -> text 1
+\rend -> text 1
+end\r\r/ -> text 1
+\r/end -> ok
+//end/ -> ok
+ end -> ok
+end  -> ok
+\tend\t/ -> ok
+end # last -> ok
+# é $ \"/end -> ok
+# only -> shape 2
+end/# after/ -> ok
+end// \t/ -> ok
+end/end -> shape 2
+end/x -> text 2
+in u8 x -> shape 2
+in u8 x/ -> shape 2
+in u8 x/// -> shape 4
+in u8 x\r/\r/end -> ok
+é/end -> text 1
+end; -> text 1
+in u8 x/in u8 y $/ -> text 2
+in u8 x/end//in u8 y -> shape 4
+in u8\rx/end -> text 1
+in u8 x#y/end -> ok
+\0end -> text 1
+end\u{b} -> text 1
+";
+
+// Tokens of lines.
+const TOKENS: &str = "\
+in u8 aaaaaaaaaaaaaaaaaaaaaaaaaaaaaaaaaaaaaaaaaaaaaaaaaaaaaaaaaaaaaaaa/end -> ok
+in u8 aaaaaaaaaaaaaaaaaaaaaaaaaaaaaaaaaaaaaaaaaaaaaaaaaaaaaaaaaaaaaaaaa/end -> text 1
+in u8 _/end -> ok
+in u8 a_9/end -> ok
+in u8 9a/end -> text 1
+in u8 A/end -> ok
+in u08 x/end -> text 1
+in u0 x/end -> text 1
+in u64 x/end -> ok
+in u65 x/end -> text 1
+in s1 x/end -> text 1
+in s2 x/end -> ok
+in u8 u65/end -> ok
+in u8 s1/end -> ok
+in u8 u64/end -> text 1
+in u8 s64/end -> text 1
+in u8 u01/end -> ok
+in u8 end/end -> text 1
+in u8 ecut/end -> text 1
+in u8 proc/end -> text 1
+in u8 True/end -> ok
+in u8 cast/end -> text 1
+in u8 ende/end -> ok
+assert alg 170141183460469231731687303715884105727 = 0/end -> ok
+assert alg 170141183460469231731687303715884105728 = 0/end -> text 1
+assert alg 000000000000000000000000000000000000000000000001 = 1/end -> ok
+assert alg 99999999999999999999999999999999999999999999 = 0/end -> text 1
+in u8 x/assert alg x ** 2 = 1/end -> ok
+in u8 x/assert alg x * * 2 = 1/end -> text 2
+in u8 x/assert rng x ! = x/end -> text 2
+in u8 x/assert rng x != x/end -> ok
+in u8 x/assert rng x < = x/end -> text 2
+in u8 x/assert rng x <= x/end -> ok
+in u8 x/assert rng x == x/end -> text 2
+in u8 x/assert rng x=x&&x=x/end -> ok
+in u8 x/assert rng x = x & & x = x/end -> text 2
+in u8 x/assert rng x=x|||x=x/end -> text 2
+in u8 x/add u8 y x 1@u8/end -> ok
+in u8 x/add u8 y x 1 @ u8/end -> ok
+in u8 x/add u8 y x 1@ u8/end -> ok
+";
+
+// Forms of lines.
+const FORMS: &str = "\
+in x u8/end -> text 1
+in u8 x y/end -> text 1
+in u8/end -> text 1
+in/end -> text 1
+in u8 5/end -> text 1
+pre true/end -> text 1
+pre rng/end -> text 1
+pre rng true true/end -> text 1
+pre rng true/end -> ok
+assume rng false/end -> ok
+cut rng true/end -> ok
+post rng true/end -> ok
+ecut rng true/end -> text 1
+rcut rng true/end -> text 1
+call f/end -> text 1
+x/end -> text 1
+mov u8 y 1@u8/end -> ok
+mov u8 y/end -> text 1
+mov u8 y 1@u8 2@u8/end -> text 1
+mov y 1@u8/end -> text 1
+mov u8 1@u8 y/end -> text 1
+adds u8 c y 1@u8 2@u8/end -> ok
+adds u8 y 1@u8 2@u8/end -> text 1
+adc u8 y 1@u8 2@u8 1@u1/end -> ok
+mull u8 h l 1@u8 2@u8/end -> ok
+shl u8 y 1@u8 3/end -> ok
+shl u8 y 1@u8/end -> text 1
+shl u8 y 1@u8 3@u8/end -> text 1
+shl u8 y 1@u8 99999999999/end -> ok
+split u8 h l 1@u8 4/end -> ok
+split u8 l 1@u8 4/end -> text 1
+join u8 y 1@u8 2@u8/end -> ok
+cast u8 y 1@u8/end -> ok
+cmov u8 y 1@u1 1@u8 2@u8/end -> ok
+nondet u8 y/end -> ok
+nondet u8 y 1@u8/end -> text 1
+not u8 y -1@s8/end -> ok
+not u8 y -0@s8/end -> text 1
+not u8 y - 1@s8/end -> ok
+not u8 y -x/end -> text 1
+end end -> text 1
+add u8 y (1@u8) 2@u8/end -> text 1
+";
+
+// Places of lines.
+const PLACES: &str = "\
+pre rng true/in u8 x/end -> shape 2
+in u8 x/pre rng true/in u8 y/end -> shape 3
+mov u8 y 1@u8/pre rng true/end -> shape 2
+mov u8 y 1@u8/in u8 x/end -> shape 2
+assert rng true/mov u8 y 1@u8/end -> ok
+post rng true/assert rng true/end -> shape 2
+post rng true/mov u8 y 1@u8/end -> shape 2
+post rng true/post rng false/end -> ok
+in u8 x//pre rng true/# c/cut rng true/assume rng true/post rng true/end -> ok
+post rng true/pre rng true +/end -> text 2
+end/in u8 x/end -> shape 2
+post rng true//# end/ -> shape 4
+post rng true/in u8 x/$ -> shape 2
+";
+
+// Terms and predicates.
+const PREDICATES: &str = "\
+assert alg x+y-z*2 = -x/end -> ok
+assert alg -x**2 = (-x)**2/end -> ok
+assert alg --x = 0/end -> text 1
+assert alg -(-x) = 0/end -> ok
+assert alg x**y = 0/end -> text 1
+assert alg x**-1 = 0/end -> text 1
+assert alg x**2**2 = 0/end -> text 1
+assert alg (x**2)**2 = 0/end -> ok
+assert alg (x = 0/end -> text 1
+assert alg x) = 0/end -> text 1
+assert alg x = y = z/end -> text 1
+assert alg x/end -> text 1
+assert alg x + = 0/end -> text 1
+assert alg [x] = 0/end -> text 1
+assert alg 5@u8 = 0/end -> text 1
+assert alg x = 0 mod 5/end -> ok
+assert alg x = 0 mod 2**3 - 1 + 4/end -> ok
+assert alg x = 0 mod -5/end -> text 1
+assert alg x = 0 mod (5)/end -> text 1
+assert alg x = 0 mod/end -> text 1
+assert alg x = 0 mod y/end -> text 1
+assert alg x = 0 mod 5 mod 5/end -> text 1
+assert alg x = 0 mod 2**3**1/end -> text 1
+assert rng x + y * z & x ^ y | z = x/end -> ok
+assert rng ~x = -x/end -> ok
+assert rng -~x = x/end -> text 1
+assert rng -(~x) = x/end -> ok
+assert rng ~-5@s8 = x/end -> ok
+assert rng ~(-x) = x/end -> ok
+assert rng --5@s8 = x/end -> ok
+assert rng -0@s8 = x/end -> text 1
+assert rng x - 0@s8 = x/end -> ok
+assert rng 5 = x/end -> text 1
+assert rng x ** 2 = x/end -> text 1
+assert rng cast(u8, x) = x/end -> ok
+assert rng cast (u8,x+y) = x/end -> ok
+assert rng cast(x, u8) = x/end -> text 1
+assert rng (x = x)/end -> text 1
+assert rng [x = x]/end -> ok
+assert rng ![x = x] && true/end -> ok
+assert rng !!true/end -> text 1
+assert rng ![!true]/end -> ok
+assert rng x < y < z/end -> text 1
+assert rng x/end -> text 1
+assert rng true = true/end -> text 1
+assert rng [true/end -> text 1
+assert rng true]/end -> text 1
+assert rng [x] = x/end -> text 1
+assert rng x = y && x != y || x >= y/end -> ok
+assert rng x > y && [x < y || x <= y]/end -> ok
+";
+
+// Limits of lines.
+const LINE_LIMITS: &str = "\
+64: assert rng {[}true]]]]]]]]]]]]]]]]]]]]]]]]]]]]]]]]]]]]]]]]]]]]]]]]]]]]]]]]]]]]]]]]/end -> ok
+65: assert rng {[}true]]]]]]]]]]]]]]]]]]]]]]]]]]]]]]]]]]]]]]]]]]]]]]]]]]]]]]]]]]]]]]]]]/end -> nesting
+65: assert alg {(}/end -> nesting
+65: assert alg {)(}/end -> text 1
+100: # {(}/end -> ok
+4096: assert alg x{ + x} = 0/end -> ok
+4097: assert alg x{ + x} = 0/end -> operators
+4097: assert rng {!}/end -> operators
+4097: assert rng x{!=x}/end -> text 1
+4097: assert rng {![}/end -> nesting
+4097: assert rng {![}$/end -> text 1
+4096: assert rng x{-x}=x/end -> ok
+4097: assert rng x{|x}=x/end -> operators
+4096: assert rng x=x{||x=x}/end -> ok
+";
+
+// Limits of exponents.
+const EXPONENTS: &str = "\
+assert alg x**1024 = 0/end -> ok
+assert alg x**1025 = 0/end -> exponent
+assert alg x = 0 mod 2**1024/end -> ok
+assert alg x = 0 mod 2**1025/end -> exponent
+assert alg x = 0 mod 2**2 + 1**99999999999/end -> exponent
+end/assert alg x**1025 = 0 -> exponent
+assert alg x**1025 = /end -> text 1
+";
+
+// Limits of programs.
+const PROGRAM_LIMITS: &str = "\
+4096: {mov u8 y 1@u8/}end -> ok
+4097: {mov u8 y 1@u8/}end -> instructions
+4097: {mov u8 y 1@u8/} -> shape 4098
+8192: {in u8 x/}end -> ok
+8193: {in u8 x/}end -> variables
+4096: {mull u8 h l 1@u8 2@u8/}end -> ok
+4096: in u8 x/{mull u8 h l 1@u8 2@u8/}end -> variables
+4096: {assert rng true/}end -> ok
+4097: {assert rng true/}end -> goals
+4096: {add u8 y 1@u8 2@u8/}end -> ok
+4097: {add u8 y 1@u8 2@u8/}end -> instructions
+4096: {add u8 y 1@u8 2@u8/}cut rng true/end -> goals
+5000: {assume rng true/}end -> ok
+70000: {/}end x -> text 70001
+";
+
+const TABLES: &[&str] = &[
+    LINES,
+    TOKENS,
+    FORMS,
+    PLACES,
+    PREDICATES,
+    LINE_LIMITS,
+    EXPONENTS,
+    PROGRAM_LIMITS,
+];
+
+// Texts with their answers. `/` stands for the end of a line, and `N: a{b}c` for `a`, N times `b`, and `c`.
+#[test]
+fn answers_to_texts(rt: HostRuntime) -> Result<(), Fail> {
+    for rows in TABLES {
+        for row in rows.lines() {
+            let (text, wanted) = row.split_once(" -> ").ok_or("no answer")?;
+            let found = answer_to_row(rt.alloc(), text)?;
+            agree(&rt, text, found.as_str(), wanted);
+        }
     }
     Ok(())
-}
-
-#[test]
-fn the_lines_of_a_text(rt: HostRuntime) {
-    let table: &[(&str, &str, u64)] = &[
-        ("", "shape", 1),
-        ("end", "ok", 0),
-        ("end\n", "ok", 0),
-        ("end\r\n", "ok", 0),
-        ("end\r", "text", 1),
-        ("\rend", "text", 1),
-        ("end\r\r\n", "text", 1),
-        ("\r\nend", "ok", 0),
-        ("\n\nend\n", "ok", 0),
-        (" end", "ok", 0),
-        ("end ", "ok", 0),
-        ("\tend\t\n", "ok", 0),
-        ("end # last", "ok", 0),
-        ("# é $ \"\nend", "ok", 0),
-        ("# only", "shape", 2),
-        ("end\n# after\n", "ok", 0),
-        ("end\n\n \t\n", "ok", 0),
-        ("end\nend", "shape", 2),
-        ("end\nx", "text", 2),
-        ("in u8 x", "shape", 2),
-        ("in u8 x\n", "shape", 2),
-        ("in u8 x\n\n\n", "shape", 4),
-        ("in u8 x\r\n\r\nend", "ok", 0),
-        ("é\nend", "text", 1),
-        ("end;", "text", 1),
-        ("in u8 x\nin u8 y $\n", "text", 2),
-        ("in u8 x\nend\n\nin u8 y", "shape", 4),
-        ("in u8\rx\nend", "text", 1),
-        ("in u8 x#y\nend", "ok", 0),
-        ("\0end", "text", 1),
-        ("end\u{b}", "text", 1),
-    ];
-    expect_answers(&rt, rt.alloc(), table);
-}
-
-#[test]
-fn the_tokens_of_a_line(rt: HostRuntime) {
-    let table: &[(&str, &str, u64)] = &[
-        (
-            "in u8 aaaaaaaaaaaaaaaaaaaaaaaaaaaaaaaaaaaaaaaaaaaaaaaaaaaaaaaaaaaaaaaa\nend",
-            "ok",
-            0,
-        ),
-        (
-            "in u8 aaaaaaaaaaaaaaaaaaaaaaaaaaaaaaaaaaaaaaaaaaaaaaaaaaaaaaaaaaaaaaaaa\nend",
-            "text",
-            1,
-        ),
-        ("in u8 _\nend", "ok", 0),
-        ("in u8 a_9\nend", "ok", 0),
-        ("in u8 9a\nend", "text", 1),
-        ("in u8 A\nend", "ok", 0),
-        ("in u08 x\nend", "text", 1),
-        ("in u0 x\nend", "text", 1),
-        ("in u64 x\nend", "ok", 0),
-        ("in u65 x\nend", "text", 1),
-        ("in s1 x\nend", "text", 1),
-        ("in s2 x\nend", "ok", 0),
-        ("in u8 u65\nend", "ok", 0),
-        ("in u8 s1\nend", "ok", 0),
-        ("in u8 u64\nend", "text", 1),
-        ("in u8 s64\nend", "text", 1),
-        ("in u8 u01\nend", "ok", 0),
-        ("in u8 end\nend", "text", 1),
-        ("in u8 ecut\nend", "text", 1),
-        ("in u8 proc\nend", "text", 1),
-        ("in u8 True\nend", "ok", 0),
-        ("in u8 cast\nend", "text", 1),
-        ("in u8 ende\nend", "ok", 0),
-        (
-            "assert alg 170141183460469231731687303715884105727 = 0\nend",
-            "ok",
-            0,
-        ),
-        (
-            "assert alg 170141183460469231731687303715884105728 = 0\nend",
-            "text",
-            1,
-        ),
-        (
-            "assert alg 000000000000000000000000000000000000000000000001 = 1\nend",
-            "ok",
-            0,
-        ),
-        (
-            "assert alg 99999999999999999999999999999999999999999999 = 0\nend",
-            "text",
-            1,
-        ),
-        ("in u8 x\nassert alg x ** 2 = 1\nend", "ok", 0),
-        ("in u8 x\nassert alg x * * 2 = 1\nend", "text", 2),
-        ("in u8 x\nassert rng x ! = x\nend", "text", 2),
-        ("in u8 x\nassert rng x != x\nend", "ok", 0),
-        ("in u8 x\nassert rng x < = x\nend", "text", 2),
-        ("in u8 x\nassert rng x <= x\nend", "ok", 0),
-        ("in u8 x\nassert rng x == x\nend", "text", 2),
-        ("in u8 x\nassert rng x=x&&x=x\nend", "ok", 0),
-        ("in u8 x\nassert rng x = x & & x = x\nend", "text", 2),
-        ("in u8 x\nassert rng x=x|||x=x\nend", "text", 2),
-        ("in u8 x\nadd u8 y x 1@u8\nend", "ok", 0),
-        ("in u8 x\nadd u8 y x 1 @ u8\nend", "ok", 0),
-        ("in u8 x\nadd u8 y x 1@ u8\nend", "ok", 0),
-    ];
-    expect_answers(&rt, rt.alloc(), table);
-}
-
-#[test]
-fn the_forms_of_lines(rt: HostRuntime) {
-    let table: &[(&str, &str, u64)] = &[
-        ("in x u8\nend", "text", 1),
-        ("in u8 x y\nend", "text", 1),
-        ("in u8\nend", "text", 1),
-        ("in\nend", "text", 1),
-        ("in u8 5\nend", "text", 1),
-        ("pre true\nend", "text", 1),
-        ("pre rng\nend", "text", 1),
-        ("pre rng true true\nend", "text", 1),
-        ("pre rng true\nend", "ok", 0),
-        ("assume rng false\nend", "ok", 0),
-        ("cut rng true\nend", "ok", 0),
-        ("post rng true\nend", "ok", 0),
-        ("ecut rng true\nend", "text", 1),
-        ("rcut rng true\nend", "text", 1),
-        ("call f\nend", "text", 1),
-        ("x\nend", "text", 1),
-        ("mov u8 y 1@u8\nend", "ok", 0),
-        ("mov u8 y\nend", "text", 1),
-        ("mov u8 y 1@u8 2@u8\nend", "text", 1),
-        ("mov y 1@u8\nend", "text", 1),
-        ("mov u8 1@u8 y\nend", "text", 1),
-        ("adds u8 c y 1@u8 2@u8\nend", "ok", 0),
-        ("adds u8 y 1@u8 2@u8\nend", "text", 1),
-        ("adc u8 y 1@u8 2@u8 1@u1\nend", "ok", 0),
-        ("mull u8 h l 1@u8 2@u8\nend", "ok", 0),
-        ("shl u8 y 1@u8 3\nend", "ok", 0),
-        ("shl u8 y 1@u8\nend", "text", 1),
-        ("shl u8 y 1@u8 3@u8\nend", "text", 1),
-        ("shl u8 y 1@u8 99999999999\nend", "ok", 0),
-        ("split u8 h l 1@u8 4\nend", "ok", 0),
-        ("split u8 l 1@u8 4\nend", "text", 1),
-        ("join u8 y 1@u8 2@u8\nend", "ok", 0),
-        ("cast u8 y 1@u8\nend", "ok", 0),
-        ("cmov u8 y 1@u1 1@u8 2@u8\nend", "ok", 0),
-        ("nondet u8 y\nend", "ok", 0),
-        ("nondet u8 y 1@u8\nend", "text", 1),
-        ("not u8 y -1@s8\nend", "ok", 0),
-        ("not u8 y -0@s8\nend", "text", 1),
-        ("not u8 y - 1@s8\nend", "ok", 0),
-        ("not u8 y -x\nend", "text", 1),
-        ("end end", "text", 1),
-        ("add u8 y (1@u8) 2@u8\nend", "text", 1),
-    ];
-    expect_answers(&rt, rt.alloc(), table);
-}
-
-#[test]
-fn the_places_of_lines(rt: HostRuntime) {
-    let table: &[(&str, &str, u64)] = &[
-        ("pre rng true\nin u8 x\nend", "shape", 2),
-        ("in u8 x\npre rng true\nin u8 y\nend", "shape", 3),
-        ("mov u8 y 1@u8\npre rng true\nend", "shape", 2),
-        ("mov u8 y 1@u8\nin u8 x\nend", "shape", 2),
-        ("assert rng true\nmov u8 y 1@u8\nend", "ok", 0),
-        ("post rng true\nassert rng true\nend", "shape", 2),
-        ("post rng true\nmov u8 y 1@u8\nend", "shape", 2),
-        ("post rng true\npost rng false\nend", "ok", 0),
-        (
-            "in u8 x\n\npre rng true\n# c\ncut rng true\nassume rng true\npost rng true\nend",
-            "ok",
-            0,
-        ),
-        ("post rng true\npre rng true +\nend", "text", 2),
-        ("end\nin u8 x\nend", "shape", 2),
-        ("post rng true\n\n# end\n", "shape", 4),
-        ("post rng true\nin u8 x\n$", "shape", 2),
-    ];
-    expect_answers(&rt, rt.alloc(), table);
-}
-
-#[test]
-fn terms_and_predicates(rt: HostRuntime) {
-    let table: &[(&str, &str, u64)] = &[
-        ("assert alg x+y-z*2 = -x\nend", "ok", 0),
-        ("assert alg -x**2 = (-x)**2\nend", "ok", 0),
-        ("assert alg --x = 0\nend", "text", 1),
-        ("assert alg -(-x) = 0\nend", "ok", 0),
-        ("assert alg x**y = 0\nend", "text", 1),
-        ("assert alg x**-1 = 0\nend", "text", 1),
-        ("assert alg x**2**2 = 0\nend", "text", 1),
-        ("assert alg (x**2)**2 = 0\nend", "ok", 0),
-        ("assert alg (x = 0\nend", "text", 1),
-        ("assert alg x) = 0\nend", "text", 1),
-        ("assert alg x = y = z\nend", "text", 1),
-        ("assert alg x\nend", "text", 1),
-        ("assert alg x + = 0\nend", "text", 1),
-        ("assert alg [x] = 0\nend", "text", 1),
-        ("assert alg 5@u8 = 0\nend", "text", 1),
-        ("assert alg x = 0 mod 5\nend", "ok", 0),
-        ("assert alg x = 0 mod 2**3 - 1 + 4\nend", "ok", 0),
-        ("assert alg x = 0 mod -5\nend", "text", 1),
-        ("assert alg x = 0 mod (5)\nend", "text", 1),
-        ("assert alg x = 0 mod\nend", "text", 1),
-        ("assert alg x = 0 mod y\nend", "text", 1),
-        ("assert alg x = 0 mod 5 mod 5\nend", "text", 1),
-        ("assert alg x = 0 mod 2**3**1\nend", "text", 1),
-        ("assert rng x + y * z & x ^ y | z = x\nend", "ok", 0),
-        ("assert rng ~x = -x\nend", "ok", 0),
-        ("assert rng -~x = x\nend", "text", 1),
-        ("assert rng -(~x) = x\nend", "ok", 0),
-        ("assert rng ~-5@s8 = x\nend", "ok", 0),
-        ("assert rng ~(-x) = x\nend", "ok", 0),
-        ("assert rng --5@s8 = x\nend", "ok", 0),
-        ("assert rng -0@s8 = x\nend", "text", 1),
-        ("assert rng x - 0@s8 = x\nend", "ok", 0),
-        ("assert rng 5 = x\nend", "text", 1),
-        ("assert rng x ** 2 = x\nend", "text", 1),
-        ("assert rng cast(u8, x) = x\nend", "ok", 0),
-        ("assert rng cast (u8,x+y) = x\nend", "ok", 0),
-        ("assert rng cast(x, u8) = x\nend", "text", 1),
-        ("assert rng (x = x)\nend", "text", 1),
-        ("assert rng [x = x]\nend", "ok", 0),
-        ("assert rng ![x = x] && true\nend", "ok", 0),
-        ("assert rng !!true\nend", "text", 1),
-        ("assert rng ![!true]\nend", "ok", 0),
-        ("assert rng x < y < z\nend", "text", 1),
-        ("assert rng x\nend", "text", 1),
-        ("assert rng true = true\nend", "text", 1),
-        ("assert rng [true\nend", "text", 1),
-        ("assert rng true]\nend", "text", 1),
-        ("assert rng [x] = x\nend", "text", 1),
-        ("assert rng x = y && x != y || x >= y\nend", "ok", 0),
-        ("assert rng x > y && [x < y || x <= y]\nend", "ok", 0),
-    ];
-    expect_answers(&rt, rt.alloc(), table);
-}
-
-#[test]
-fn the_limits_of_lines(rt: HostRuntime) -> Result<(), AllocError> {
-    let table: &[Repeated] = &[
-        (
-            "assert rng ",
-            "[",
-            64,
-            "true]]]]]]]]]]]]]]]]]]]]]]]]]]]]]]]]]]]]]]]]]]]]]]]]]]]]]]]]]]]]]]]]\nend",
-            "ok",
-            0,
-        ),
-        (
-            "assert rng ",
-            "[",
-            65,
-            "true]]]]]]]]]]]]]]]]]]]]]]]]]]]]]]]]]]]]]]]]]]]]]]]]]]]]]]]]]]]]]]]]]\nend",
-            "nesting",
-            0,
-        ),
-        ("assert alg ", "(", 65, "\nend", "nesting", 0),
-        ("assert alg ", ")(", 65, "\nend", "text", 1),
-        ("# ", "(", 100, "\nend", "ok", 0),
-        ("assert alg x", " + x", 4096, " = 0\nend", "ok", 0),
-        ("assert alg x", " + x", 4097, " = 0\nend", "operators", 0),
-        ("assert rng ", "!", 4097, "\nend", "operators", 0),
-        ("assert rng x", "!=x", 4097, "\nend", "text", 1),
-        ("assert rng ", "![", 4097, "\nend", "nesting", 0),
-        ("assert rng ", "![", 4097, "$\nend", "text", 1),
-        ("assert rng x", "-x", 4096, "=x\nend", "ok", 0),
-        ("assert rng x", "|x", 4097, "=x\nend", "operators", 0),
-        ("assert rng x=x", "||x=x", 4096, "\nend", "ok", 0),
-        ("assert alg x**1024 = 0\nend", "", 0, "", "ok", 0),
-        ("assert alg x**1025 = 0\nend", "", 0, "", "exponent", 0),
-        ("assert alg x = 0 mod 2**1024\nend", "", 0, "", "ok", 0),
-        (
-            "assert alg x = 0 mod 2**1025\nend",
-            "",
-            0,
-            "",
-            "exponent",
-            0,
-        ),
-        (
-            "assert alg x = 0 mod 2**2 + 1**99999999999\nend",
-            "",
-            0,
-            "",
-            "exponent",
-            0,
-        ),
-        ("end\nassert alg x**1025 = 0", "", 0, "", "exponent", 0),
-        ("assert alg x**1025 = \nend", "", 0, "", "text", 1),
-    ];
-    expect_repeated(&rt, rt.alloc(), table)
-}
-
-#[test]
-fn the_limits_of_programs(rt: HostRuntime) -> Result<(), AllocError> {
-    let table: &[Repeated] = &[
-        ("", "mov u8 y 1@u8\n", 4096, "end", "ok", 0),
-        ("", "mov u8 y 1@u8\n", 4097, "end", "instructions", 0),
-        ("", "mov u8 y 1@u8\n", 4097, "", "shape", 4098),
-        ("", "in u8 x\n", 8192, "end", "ok", 0),
-        ("", "in u8 x\n", 8193, "end", "variables", 0),
-        ("", "mull u8 h l 1@u8 2@u8\n", 4096, "end", "ok", 0),
-        (
-            "in u8 x\n",
-            "mull u8 h l 1@u8 2@u8\n",
-            4096,
-            "end",
-            "variables",
-            0,
-        ),
-        ("", "assert rng true\n", 4096, "end", "ok", 0),
-        ("", "assert rng true\n", 4097, "end", "goals", 0),
-        ("", "add u8 y 1@u8 2@u8\n", 4096, "end", "ok", 0),
-        ("", "add u8 y 1@u8 2@u8\n", 4097, "end", "instructions", 0),
-        (
-            "",
-            "add u8 y 1@u8 2@u8\n",
-            4096,
-            "cut rng true\nend",
-            "goals",
-            0,
-        ),
-        ("", "assume rng true\n", 5000, "end", "ok", 0),
-        ("", "\n", 70000, "end x", "text", 70001),
-    ];
-    expect_repeated(&rt, rt.alloc(), table)
 }
 
 // Whether the names and the places are those of the text.

@@ -146,10 +146,23 @@ assert alg a = b mod 2**1025 -> exponent
 assert alg a = b mod 2**1025 a -> text
 ";
 
+fn write_name(text: &mut String, n: u32) -> Result<(), AllocError> {
+    write!(text, "x{n}")
+}
+
+fn write_number(text: &mut String, n: i128) -> Result<(), AllocError> {
+    write!(text, "{n}")
+}
+
+// The end of a power.
+fn write_exponent(text: &mut String, power: u32) -> Result<(), AllocError> {
+    write!(text, "**{power})")
+}
+
 fn write_term(term: &Term, text: &mut String) -> Result<(), AllocError> {
     match term {
-        Term::Var(n) => write!(text, "x{n}"),
-        Term::Num(n) => write!(text, "{n}"),
+        Term::Var(n) => write_name(text, *n),
+        Term::Num(n) => write_number(text, *n),
         Term::Neg(inner) => {
             text.push_str("(-")?;
             write_term(inner.get(), text)?;
@@ -179,13 +192,20 @@ fn write_term(term: &Term, text: &mut String) -> Result<(), AllocError> {
         Term::Pow(base, power) => {
             text.push_str("(")?;
             write_term(base.get(), text)?;
-            write!(text, "**{power})")
+            write_exponent(text, *power)
         }
     }
 }
 
-fn type_letter(ty: &Ty) -> &str {
-    if ty.signed { "s" } else { "u" }
+fn write_type(text: &mut String, ty: &Ty) -> Result<(), AllocError> {
+    let letter = if ty.signed { 's' } else { 'u' };
+    write!(text, "{letter}{}", ty.width)
+}
+
+fn write_literal(text: &mut String, ty: &Ty, n: i128) -> Result<(), AllocError> {
+    write_number(text, n)?;
+    text.push_str("@")?;
+    write_type(text, ty)
 }
 
 fn operator(op: &RngOp) -> &str {
@@ -212,12 +232,8 @@ fn comparison(op: &CmpOp) -> &str {
 
 fn write_range_term(term: &RngTerm, text: &mut String) -> Result<(), AllocError> {
     match term {
-        RngTerm::Leaf(Atom::Var(n)) => write!(text, "x{n}"),
-        RngTerm::Leaf(Atom::Lit(ty, n)) => {
-            write!(text, "{n}@")?;
-            text.push_str(type_letter(ty))?;
-            write!(text, "{}", ty.width)
-        }
+        RngTerm::Leaf(Atom::Var(n)) => write_name(text, *n),
+        RngTerm::Leaf(Atom::Lit(ty, n)) => write_literal(text, ty, *n),
         RngTerm::Neg(inner) => {
             text.push_str("(-")?;
             write_range_term(inner.get(), text)?;
@@ -237,8 +253,8 @@ fn write_range_term(term: &RngTerm, text: &mut String) -> Result<(), AllocError>
         }
         RngTerm::Cast(ty, inner) => {
             text.push_str("cast(")?;
-            text.push_str(type_letter(ty))?;
-            write!(text, "{},", ty.width)?;
+            write_type(text, ty)?;
+            text.push_str(",")?;
             write_range_term(inner.get(), text)?;
             text.push_str(")")
         }

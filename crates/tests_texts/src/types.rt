@@ -103,28 +103,41 @@ fn outcome_of_text(alloc: Global, text: &str) -> Result<String, Fail> {
     outcome(alloc, parse(alloc, text.as_bytes())?)
 }
 
+fn push_line(text: &mut String, row: &str) -> Result<(), AllocError> {
+    text.push_str(row)?;
+    text.push_str("\n")
+}
+
+fn ended_outcome(alloc: Global, text: &mut String) -> Result<String, Fail> {
+    text.push_str("end")?;
+    outcome_of_text(alloc, text.as_str())
+}
+
 // An empty line counts, and says nothing.
 #[test]
 fn outcomes_of_programs(rt: HostRuntime) -> Result<(), Fail> {
     let mut text = String::new(rt.alloc());
     for row in programs::PROGRAMS.lines() {
         if let Some(expected) = row.strip_prefix("end: ") {
-            text.push_str("end")?;
-            let found = outcome_of_text(rt.alloc(), text.as_str())?;
+            let found = ended_outcome(rt.alloc(), &mut text)?;
             agree(&rt, text.as_str(), found.as_str(), expected);
             text.clear();
         } else {
-            write!(&mut text, "{row}\n")?;
+            push_line(&mut text, row)?;
         }
     }
     Ok(())
+}
+
+fn push_summand(text: &mut String, k: u32) -> Result<(), AllocError> {
+    write!(text, " + n{k}")
 }
 
 // The sum of the first 2,000 names.
 fn push_sum(text: &mut String) -> Result<(), AllocError> {
     text.push_str("n0")?;
     for k in 1..2000_u32 {
-        write!(&mut *text, " + n{k}")?;
+        push_summand(text, k)?;
     }
     Ok(())
 }
@@ -137,15 +150,38 @@ fn push_equation(text: &mut String, start: &str) -> Result<(), AllocError> {
     text.push_str("\n")
 }
 
+fn push_input(text: &mut String, k: u32) -> Result<(), AllocError> {
+    write!(text, "in u64 n{k}\n")
+}
+
+fn push_step(text: &mut String, k: u32) -> Result<(), AllocError> {
+    write!(
+        text,
+        "xor u64 n{} n{k} n{}\n",
+        k.saturating_add(4096),
+        k.saturating_add(4095)
+    )
+}
+
+fn push_inputs(text: &mut String) -> Result<(), AllocError> {
+    for k in 0..4096_u32 {
+        push_input(text, k)?;
+    }
+    Ok(())
+}
+
+fn push_steps(text: &mut String) -> Result<(), AllocError> {
+    for k in 0..4096_u32 {
+        push_step(text, k)?;
+    }
+    Ok(())
+}
+
 // 4,096 inputs, 4,096 instructions, and predicates with nearly 4,096 operators each.
 fn long_text(alloc: Global) -> Result<String, AllocError> {
     let mut text = String::new(alloc);
-    for k in 0..4096_u32 {
-        write!(&mut text, "in u64 n{k}\n")?;
-    }
-    for k in 0..4096_u32 {
-        write!(&mut text, "xor u64 n{} n{k} n{}\n", 4096 + k, 4095 + k)?;
-    }
+    push_inputs(&mut text)?;
+    push_steps(&mut text)?;
     for _ in 0..12 {
         push_equation(&mut text, "assert rng ")?;
         push_equation(&mut text, "assert alg ")?;

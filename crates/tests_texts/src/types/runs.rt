@@ -4,6 +4,7 @@ ghost use Rattle.std.specs.Prelude.{◌≡◌, length, IfOk, IsTrue};
 ghost use Rattle.tcl_lang.specs.Run.{Fits, taken_types};
 
 use super::programs::RUNS;
+use super::push_line;
 use crate::expected::agree;
 use std::alloc::{AllocError, Global};
 use std::test::Fail;
@@ -50,15 +51,17 @@ fn read_input(alloc: Global, text: &str) -> Result<Vec<i128>, Fail> {
     Ok(input)
 }
 
+fn push_word(text: &mut String, word: &Word) -> Result<(), AllocError> {
+    let space = if text.is_empty() { "" } else { " " };
+    let sign = if word.ty.signed { 's' } else { 'u' };
+    write!(text, "{space}{}@{sign}{}", word.value, word.ty.width)
+}
+
 // The words as literals, in the order of the names.
 fn written(alloc: Global, store: &[Word]) -> Result<String, AllocError> {
     let mut text = String::new(alloc);
     for word in store {
-        if !text.is_empty() {
-            text.push_str(" ")?;
-        }
-        let sign = if word.ty.signed { 's' } else { 'u' };
-        write!(&mut text, "{}@{sign}{}", word.value, word.ty.width)?;
+        push_word(&mut text, word)?;
     }
     Ok(text)
 }
@@ -70,20 +73,23 @@ fn outcome(alloc: Global, text: &str, input: &str) -> Result<String, Fail> {
     Ok(written(alloc, &store)?)
 }
 
+fn ended_outcome(alloc: Global, text: &mut String, input: &str) -> Result<String, Fail> {
+    text.push_str("end")?;
+    outcome(alloc, text.as_str(), input)
+}
+
 // The lines of programs one after the other; each ends with an input and what the names then hold.
 #[test]
 fn redefinitions(rt: HostRuntime) -> Result<(), Fail> {
-    let alloc = rt.alloc();
-    let mut text = String::new(alloc);
+    let mut text = String::new(rt.alloc());
     for row in RUNS.lines() {
         if let Some(rest) = row.strip_prefix("run ") {
             let (input, expected) = rest.split_once(": ").ok_or("no outcome")?;
-            text.push_str("end")?;
-            let found = outcome(alloc, text.as_str(), input)?;
+            let found = ended_outcome(rt.alloc(), &mut text, input)?;
             agree(&rt, row, found.as_str(), expected);
             text.clear();
         } else {
-            write!(&mut text, "{row}\n")?;
+            push_line(&mut text, row)?;
         }
     }
     Ok(())
