@@ -215,6 +215,11 @@ fn count_of_bits(alloc: Global, form: &Ssa, fact: &Fact) -> Result<usize, AllocE
     Ok(bits.len())
 }
 
+fn is_right_row(alloc: Global, row: &Row) -> Result<bool, Fail> {
+    let form = form_of(alloc, row.program)?;
+    Ok(is_right(alloc, &form, row)?)
+}
+
 fn is_right(alloc: Global, form: &Ssa, row: &Row) -> Result<bool, AllocError> {
     let fact = fact_of_row(alloc, row)?;
     Ok(are_free(alloc, form, &fact, row.free)? && count_of_bits(alloc, form, &fact)? == row.bits)
@@ -224,8 +229,7 @@ fn is_right(alloc: Global, form: &Ssa, row: &Row) -> Result<bool, AllocError> {
 fn free_variables_of_facts(rt: HostRuntime) -> Result<(), Fail> {
     for line in FACTS.trim().lines() {
         let row = row_of(line).ok_or("a row of facts")?;
-        let form = form_of(rt.alloc(), row.program)?;
-        let is_so = is_right(rt.alloc(), &form, &row)?;
+        let is_so = is_right_row(rt.alloc(), &row)?;
         expect(&rt, "free variables and bits", row.program, row.goal, is_so);
     }
     Ok(())

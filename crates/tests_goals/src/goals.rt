@@ -4,6 +4,7 @@ use crate::expected::{agree, holds};
 use crate::forms::form_of_text;
 use crate::programs::programs;
 use std::alloc::{AllocError, Global};
+use std::process::Abort;
 use std::test::Fail;
 use tcl_goals::{Goal, Hyp, Hyps, Kind, default_hyps, goals, has_goal, starts_at};
 use tcl_lang::Ssa;
@@ -50,11 +51,15 @@ fn goals_text(alloc: Global, form: &Ssa) -> Result<String, AllocError> {
     Ok(text)
 }
 
+fn goals_of(alloc: Global, program: &str) -> Result<String, Fail> {
+    let form = form_of_text(alloc, program)?;
+    Ok(goals_text(alloc, &form)?)
+}
+
 #[test]
 fn goals_of_programs(rt: HostRuntime) -> Result<(), Fail> {
     for (program, wanted) in programs() {
-        let form = form_of_text(rt.alloc(), program)?;
-        let text = goals_text(rt.alloc(), &form)?;
+        let text = goals_of(rt.alloc(), program)?;
         agree(&rt, program, text.as_str(), wanted);
     }
     Ok(())
@@ -78,13 +83,25 @@ fn count_of_hyps(alloc: Global, form: &Ssa, goal: u32) -> Result<usize, AllocErr
     Ok(default_hyps(alloc, form, goal)?.len())
 }
 
+fn has_all_goals(alloc: Global, form: &Ssa) -> Result<bool, AllocError> {
+    Ok(goals(alloc, form)?.len() == 4096)
+}
+
+fn long_form(alloc: Global) -> Result<Ssa, Fail> {
+    let text = long_text(alloc)?;
+    form_of_text(alloc, text.as_str())
+}
+
+fn expect_many(rt: &impl Abort, alloc: Global, form: &Ssa) -> Result<(), AllocError> {
+    let has_all = has_all_goals(alloc, form)?;
+    holds(rt, "4,096 goals", has_all);
+    let hyps = count_of_hyps(alloc, form, 4095)?;
+    holds(rt, "the hypotheses of the last", hyps == 4095);
+    Ok(())
+}
+
 #[test]
 fn many_goals(rt: HostRuntime) -> Result<(), Fail> {
-    let text = long_text(rt.alloc())?;
-    let form = form_of_text(rt.alloc(), text.as_str())?;
-    let count = goals(rt.alloc(), &form)?.len();
-    holds(&rt, "4,096 goals", count == 4096);
-    let hyps = count_of_hyps(rt.alloc(), &form, 4095)?;
-    holds(&rt, "the hypotheses of the last", hyps == 4095);
-    Ok(())
+    let form = long_form(rt.alloc())?;
+    Ok(expect_many(&rt, rt.alloc(), &form)?)
 }

@@ -76,16 +76,24 @@ fn has_lemma(
     Ok(has_claim(form, &Claim::Lemma(lemma)))
 }
 
+fn expect_goals(rt: &impl Abort, form: &Ssa) {
+    holds(rt, "the last goal", has_claim(form, &Claim::Goal(2)));
+    holds(rt, "no goal", !has_claim(form, &Claim::Goal(3)));
+}
+
+fn expect_lemmas(rt: &impl Abort, alloc: Global, form: &Ssa) -> Result<(), AllocError> {
+    for (level, var, bit, has) in LEMMAS {
+        let found = has_lemma(alloc, form, *level, &[(*var, *bit)])?;
+        expect(rt, *var, *bit, found == *has);
+    }
+    Ok(())
+}
+
 #[test]
 fn claims(rt: HostRuntime) -> Result<(), Fail> {
     let form = form_of_text(rt.alloc(), TEXT)?;
-    holds(&rt, "the last goal", has_claim(&form, &Claim::Goal(2)));
-    holds(&rt, "no goal", !has_claim(&form, &Claim::Goal(3)));
-    for (level, var, bit, has) in LEMMAS {
-        let found = has_lemma(rt.alloc(), &form, *level, &[(*var, *bit)])?;
-        expect(&rt, *var, *bit, found == *has);
-    }
-    Ok(())
+    expect_goals(&rt, &form);
+    Ok(expect_lemmas(&rt, rt.alloc(), &form)?)
 }
 
 fn expect(rt: &impl Abort, first: u32, second: u32, is_so: bool) {
@@ -112,14 +120,18 @@ const LINES: &[(&[u32], bool)] = &[
     (&[1, 9], false),
 ];
 
+fn expect_lines(rt: &impl Abort, alloc: Global, form: &Ssa) -> Result<(), AllocError> {
+    for (places, has) in LINES {
+        let found = has_lines(alloc, form, places)?;
+        expect_places(rt, "the lines", places, found == *has);
+    }
+    Ok(())
+}
+
 #[test]
 fn lines_as_hypotheses(rt: HostRuntime) -> Result<(), Fail> {
     let form = form_of_text(rt.alloc(), TEXT)?;
-    for (places, has) in LINES {
-        let found = has_lines(rt.alloc(), &form, places)?;
-        expect_places(&rt, "the lines", places, found == *has);
-    }
-    Ok(())
+    Ok(expect_lines(&rt, rt.alloc(), &form)?)
 }
 
 // The key of a hypothesis where there are the two lemmas.
@@ -133,29 +145,41 @@ fn has_key(alloc: Global, form: &Ssa, hyp: Hyp, key: Option<Key>) -> Result<bool
     Ok(key_with_lemmas(alloc, form, hyp)? == key)
 }
 
-const LINE_KEY: Key = Key {
-    place: 3,
-    kind: 1,
-    number: 0,
-};
+// A hypothesis with its key: a line, a lemma, and what is no lemma.
+const KEYS: &[(&str, Hyp, Option<Key>)] = &[
+    (
+        "the key of a line",
+        Hyp::Line(3),
+        Some(Key {
+            place: 3,
+            kind: 1,
+            number: 0,
+        }),
+    ),
+    (
+        "the key of a lemma",
+        Hyp::Lemma(5),
+        Some(Key {
+            place: 5,
+            kind: 0,
+            number: 5,
+        }),
+    ),
+    ("no lemma", Hyp::Lemma(4), None),
+];
 
-const LEMMA_KEY: Key = Key {
-    place: 5,
-    kind: 0,
-    number: 5,
-};
+fn expect_keys(rt: &impl Abort, alloc: Global, form: &Ssa) -> Result<(), AllocError> {
+    for (what, hyp, key) in KEYS {
+        let is_so = has_key(alloc, form, *hyp, *key)?;
+        holds(rt, what, is_so);
+    }
+    Ok(())
+}
 
 #[test]
 fn keys(rt: HostRuntime) -> Result<(), Fail> {
-    let alloc = rt.alloc();
-    let form = form_of_text(alloc, TEXT)?;
-    let of_line = has_key(alloc, &form, Hyp::Line(3), Some(LINE_KEY))?;
-    holds(&rt, "the key of a line", of_line);
-    let of_lemma = has_key(alloc, &form, Hyp::Lemma(5), Some(LEMMA_KEY))?;
-    holds(&rt, "the key of a lemma", of_lemma);
-    let of_none = has_key(alloc, &form, Hyp::Lemma(4), None)?;
-    holds(&rt, "no lemma", of_none);
-    Ok(())
+    let form = form_of_text(rt.alloc(), TEXT)?;
+    Ok(expect_keys(&rt, rt.alloc(), &form)?)
 }
 
 // Whether hypotheses are in order before a goal, where there are the two lemmas.
@@ -181,14 +205,18 @@ const ORDERS: &[(u32, &[Hyp], bool)] = &[
     (0, &[Hyp::Lemma(3)], false),
 ];
 
+fn expect_orders(rt: &impl Abort, alloc: Global, form: &Ssa) -> Result<(), AllocError> {
+    for (goal, items, is_ordered) in ORDERS {
+        let found = has_order(alloc, form, *goal, items)?;
+        expect(rt, *goal, items.len() as u32, found == *is_ordered);
+    }
+    Ok(())
+}
+
 #[test]
 fn order_of_hypotheses(rt: HostRuntime) -> Result<(), Fail> {
     let form = form_of_text(rt.alloc(), TEXT)?;
-    for (goal, items, is_ordered) in ORDERS {
-        let found = has_order(rt.alloc(), &form, *goal, items)?;
-        expect(&rt, *goal, items.len() as u32, found == *is_ordered);
-    }
-    Ok(())
+    Ok(expect_orders(&rt, rt.alloc(), &form)?)
 }
 
 // A goal, places, and whether they can be the uses of a fact of the goal.
@@ -209,14 +237,18 @@ fn has_uses(alloc: Global, form: &Ssa, goal: u32, places: &[u32]) -> Result<bool
     Ok(are_uses(form, &Claim::Goal(goal), &uses))
 }
 
+fn expect_uses(rt: &impl Abort, alloc: Global, form: &Ssa) -> Result<(), AllocError> {
+    for (goal, places, is_right) in USES {
+        let found = has_uses(alloc, form, *goal, places)?;
+        expect_places(rt, "the uses", places, found == *is_right);
+    }
+    Ok(())
+}
+
 #[test]
 fn uses(rt: HostRuntime) -> Result<(), Fail> {
     let form = form_of_text(rt.alloc(), TEXT)?;
-    for (goal, places, is_right) in USES {
-        let found = has_uses(rt.alloc(), &form, *goal, places)?;
-        expect_places(&rt, "the uses", places, found == *is_right);
-    }
-    Ok(())
+    Ok(expect_uses(&rt, rt.alloc(), &form)?)
 }
 
 // A goal, bits of variables, and whether they can be the cube of a fact of the goal.
@@ -238,12 +270,16 @@ fn has_cube(alloc: Global, form: &Ssa, goal: u32, bits: &[(u32, u32)]) -> Result
     Ok(is_cube(form, &Claim::Goal(goal), &cube))
 }
 
+fn expect_cubes(rt: &impl Abort, alloc: Global, form: &Ssa) -> Result<(), AllocError> {
+    for (goal, bits, is_right) in CUBES {
+        let found = has_cube(alloc, form, *goal, bits)?;
+        expect(rt, *goal, bits.len() as u32, found == *is_right);
+    }
+    Ok(())
+}
+
 #[test]
 fn cubes(rt: HostRuntime) -> Result<(), Fail> {
     let form = form_of_text(rt.alloc(), TEXT)?;
-    for (goal, bits, is_right) in CUBES {
-        let found = has_cube(rt.alloc(), &form, *goal, bits)?;
-        expect(&rt, *goal, bits.len() as u32, found == *is_right);
-    }
-    Ok(())
+    Ok(expect_cubes(&rt, rt.alloc(), &form)?)
 }

@@ -54,13 +54,23 @@ fn whole_of(alloc: Global, form: &Ssa, goal: u32) -> Result<Fact, Fail> {
 
 // Whether the slice of the goal of a row is its fact.
 fn is_slice(alloc: Global, row: &Row) -> Result<bool, Fail> {
-    let fact = slice_of(alloc, &form_of(alloc, row.program)?, row.goal)?;
+    let form = form_of(alloc, row.program)?;
+    is_slice_in(alloc, &form, row)
+}
+
+fn is_slice_in(alloc: Global, form: &Ssa, row: &Row) -> Result<bool, Fail> {
+    let fact = slice_of(alloc, form, row.goal)?;
     Ok(is_fact(alloc, &fact, row)?)
 }
 
 // Whether the whole fact of the goal of a row is its fact.
 fn is_whole(alloc: Global, row: &Row) -> Result<bool, Fail> {
-    let fact = whole_of(alloc, &form_of(alloc, row.program)?, row.goal)?;
+    let form = form_of(alloc, row.program)?;
+    is_whole_in(alloc, &form, row)
+}
+
+fn is_whole_in(alloc: Global, form: &Ssa, row: &Row) -> Result<bool, Fail> {
+    let fact = whole_of(alloc, form, row.goal)?;
     Ok(is_fact(alloc, &fact, row)?)
 }
 
@@ -131,10 +141,15 @@ fn plan_text(alloc: Global, form: &Ssa, split: u32) -> Result<String, AllocError
 // The plan of a program.
 fn plan_of(alloc: Global, program: &str, split: u32) -> Result<String, Fail> {
     let form = form_of_text(alloc, program)?;
+    Ok(plan_up_to_six(alloc, &form, split)?)
+}
+
+// The plan, where the split is one.
+fn plan_up_to_six(alloc: Global, form: &Ssa, split: u32) -> Result<String, AllocError> {
     if split > 6 {
-        return Err("a split above 6")?;
+        return String::from_str(alloc, "a split above 6");
     }
-    Ok(plan_text(alloc, &form, split)?)
+    plan_text(alloc, form, split)
 }
 
 #[test]
