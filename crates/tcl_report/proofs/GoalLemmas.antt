@@ -1,4 +1,4 @@
--- The goals of a versioned form are those of its program, and there are as many as goals are counted.
+-- The goals of a versioned form are those of its program, and each goal of the list is one of the lines.
 use Rattle.std.proofs.Common.{◌≡◌, ℕ, zero, suc, ◌+◌, cond, Bool, Some, true, false, List, [], ◌∷◌, length, refl, sym, ◌∙◌, ap, arith, if◌then◌else◌}
 use Rattle.std.specs.List.{slice_get}
 use Rattle.std.proofs.lemmas.Bool.{lt-ltb}
@@ -48,12 +48,9 @@ from_count k i (l ∷ lines) =
     (sum_by-cons (λ x. cond (is_goal x) 1 0) l lines)
     (from_count (k + 1) (i + 1) lines) (from_count (k + 1) i lines)
 
-pub goals_count : (lines : List Line) → length (goals_of lines) ≡ goal_count lines
+goals_count : (lines : List Line) → length (goals_of lines) ≡ goal_count lines
 unfolding goals_of
 goals_count lines = from_count 0 0 lines
-
-pub form_count : (p : NamedProgram) → goal_count (form_of p).lines ≡ goal_count p.lines
-form_count p = sym (goals_count (form_of p).lines) ∙ ap length (form_goals p) ∙ goals_count p.lines
 
 -- the goal at a place of the list has this number
 numbered_if : (b : Bool) (first g : Goal) (more same : List Goal) (n i : ℕ) → slice_get (if b then first ∷ more else same) n ≡ Some g → first.number ≡ i → ((m : ℕ) → slice_get more m ≡ Some g → g.number ≡ i + 1 + m) → ((m : ℕ) → slice_get same m ≡ Some g → g.number ≡ i + m) → g.number ≡ i + n
@@ -70,7 +67,7 @@ number_from k i (l ∷ lines) n g at =
     numbered_if (is_goal l) (record { number = i; place = k; kind = kind_of l }) g (goals_from (k + 1) (i + 1) lines) (goals_from (k + 1) i lines) n i at refl
     (λ m h. number_from (k + 1) (i + 1) lines m g h) (λ m h. number_from (k + 1) i lines m g h)
 
-pub goal_number : (lines : List Line) (n : ℕ) (g : Goal) → slice_get (goals_of lines) n ≡ Some g → g.number ≡ n
+goal_number : (lines : List Line) (n : ℕ) (g : Goal) → slice_get (goals_of lines) n ≡ Some g → g.number ≡ n
 unfolding goals_of
 goal_number lines n g at = omega (arith, number_from 0 0 lines n g at)
 

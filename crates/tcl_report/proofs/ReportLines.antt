@@ -123,7 +123,7 @@ stray_by causes s b apart k q at (Some status.Broken) e = tt
 stray_by causes s b apart k q at (Some status.Cancelled) e = tt
 stray_by causes s b apart k q at (Some (status.Ended n)) e =
     let found = b.truths k q (status.Ended n) at e in
-    subst (λ o. StraySays s (cause_in o)) (sym found.1) found.2.not_stray
+    subst (λ o. StraySays s (cause_in o)) (sym found.1) found.2.not_broken
 stray_by causes s b apart k q at (Some (status.Strayed i n)) e =
     let found = b.truths k q (status.Strayed i n) at e in
     let goal = below_is q.goal (goal_count s.program.lines) (b.plan.each k q at).goal in

@@ -10,7 +10,7 @@ use Rattle.tcl_goals.specs.declared.piece.Verdict.TheVariants as verdict
 use Rattle.tcl_goals.specs.Places.{goal_place}
 use Rattle.tcl_board.specs.Shows.{Causes}
 use Rattle.tcl_board.specs.State.{BoardState}
-use Rattle.tcl_board.specs.Steps.{is_stray_no}
+use Rattle.tcl_board.specs.Steps.{is_broken_goal}
 use Rattle.tcl_board.specs.Told.{Answer, Proved, Refuted, Unproved, Strayed, answer_of, verdict_of, AnswerHolds}
 use Rattle.tcl_board.specs.Finished.{IsFinal}
 use Rattle.tcl_report.specs.Events.{admits, breaks}
@@ -38,11 +38,11 @@ pub record IsRefutedAt (s : BoardState) (place : ℕ) (input : List ℤ) : Type 
   pub refutes : IsCounterexample (length s.program.variables) s.program.lines input goal
   pub told : is_refuted (answer_of s goal) ≡ true
 
--- A stray that is the break of a smaller goal comes with that goal refuted. No other stray is told with the truth that this
--- would be.
+-- A stray that is the break of a smaller goal comes with that goal refuted. No other stray is a goal with the truth `No`, which
+-- its input would break.
 abbrev pub StraySays : BoardState → Answer → Type 0
 StraySays s (Strayed place input) = IsRefutedAt s place input
-StraySays s (Unproved c) = is_stray_no c ≡ false
+StraySays s (Unproved c) = is_broken_goal s.program c ≡ false
 StraySays s _ = ⊤
 
 -- The line of a goal. What is told of it holds: it is sound; or the input refutes it; or the cause is true of the piece of
