@@ -1,0 +1,4 @@
+pub mod Conflicts
+pub mod Reductions
+pub mod StrayModels
+pub mod Unsettled
