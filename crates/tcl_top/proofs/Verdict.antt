@@ -1,61 +1,74 @@
 -- What the status of a report says.
-use Rattle.std.proofs.Common.{◌≡◌, ◌<◌, inl, inr, ℕ, zero, suc, Bool, true, false, ◌||◌, List, [], ◌∷◌, length, refl, sym, subst, ◌∙◌, arith, Some, if◌then◌else◌}
-use Rattle.std.specs.List.{slice_get}
+use Rattle.std.proofs.Common.{◌≡◌, ◌<◌, inl, inr, ℕ, ℤ, true, List, length, refl, sym, subst, ◌∙◌, ap, arith}
 use Rattle.tcl_lang.specs.declared.pred.Line.{Line}
-use Rattle.tcl_lang.specs.Program.{VersionedProgram}
+use Rattle.tcl_lang.specs.Program.{ReadProgram, VersionedProgram}
 use Rattle.tcl_lang.specs.Goal.{goal_count}
-use Rattle.tcl_lang.specs.Correct.{IsCorrect}
+use Rattle.tcl_lang.specs.Correct.{IsCorrect, IsCounterexample}
 use Rattle.tcl_lang.proofs.Correctness.{no_counterexample_correct}
+use Rattle.tcl_goals.specs.declared.piece.Verdict.{Verdict}
 use Rattle.tcl_goals.specs.declared.piece.Verdict.TheVariants as verdict
 use Rattle.tcl_goals.proofs.GoalPlaces.{goal_number_below}
-use Rattle.tcl_top.specs.declared.answer.Answer.{Answer}
-use Rattle.tcl_top.specs.declared.answer.Answer.TheVariants.{Proved, Refuted, Unproved}
-use Rattle.tcl_top.specs.Answers.{AreTrueAnswers, is_refuted, is_unproved, any_refuted, any_unproved}
+use Rattle.tcl_board.specs.declared.event.Event.{Event}
+use Rattle.tcl_board.specs.State.{BoardState}
+use Rattle.tcl_board.specs.Told.{Answer, Proved, Refuted, Unproved, Strayed, Open, answer_of, verdict_of}
+use Rattle.tcl_kernel.specs.Causes.{IsTrueCause}
+use Rattle.tcl_report.specs.ReportSays.{is_proved, VerdictSays, IsReport}
+use Rattle.tcl_top.proofs.FormGoals.{form_goal_count}
+use Rattle.tcl_top.specs.Answers.{Tells, IsBoardOf}
 use Rattle.tcl_top.specs.Headline.{IsAnswered, ReadsCorrect, verdict_status}
 
-none_right : (a b : Bool) → (a || b) ≡ false → b ≡ false
-none_right true b e = absurd (cc)
-none_right false b e = e
+-- a proved goal is refuted by no input
+proved_tells : (names : ℕ) (lines : List Line) (g : ℕ) (a : Answer) → is_proved a ≡ true → Tells names lines g a → (input : List ℤ) → IsCounterexample names lines input g → ⊥
+proved_tells names lines g Proved e t = t
+proved_tells names lines g (Refuted input) e t = absurd (cc)
+proved_tells names lines g (Unproved c) e t = absurd (cc)
+proved_tells names lines g (Strayed place input) e t = absurd (cc)
+proved_tells names lines g Open e t = absurd (cc)
 
--- where no answer is a refutation and none is unproved, each goal has the answer `Proved`
-proved_at : (answers : List Answer) (i : ℕ) → any_refuted answers ≡ false → any_unproved answers ≡ false → i < length answers → slice_get answers i ≡ Some Proved
-proved_at [] i e f h = absurd (omega arith)
-proved_at (Proved ∷ answers) zero e f h = refl
-proved_at (Refuted input ∷ answers) zero e f h = absurd (cc)
-proved_at (Unproved c ∷ answers) zero e f h = absurd (cc)
-proved_at (a ∷ answers) (suc i) e f h =
-    proved_at answers i (none_right (is_refuted a) (any_refuted answers) e) (none_right (is_unproved a) (any_unproved answers) f) (omega arith)
+status_zero : (v : Verdict) → verdict_status v ≡ 0 → v ≡ verdict.Verified
+status_zero verdict.Verified e = refl
+status_zero verdict.Refuted e = absurd (omega arith)
+status_zero verdict.Unproved e = absurd (omega arith)
 
-all_proved_correct : (names : ℕ) (lines : List Line) (form : VersionedProgram) (answers : List Answer) → AreTrueAnswers names lines form answers → any_refuted answers ≡ false → any_unproved answers ≡ false → IsCorrect names lines
-all_proved_correct names lines form answers true_ones none settled =
-    no_counterexample_correct names lines (λ input i c.
-    let below : i < length answers =
-    subst (λ n. i < n) (sym true_ones.count) (subst (λ j. j < goal_count lines) c.at.number (goal_number_below lines c.place c.at.goal)) in
-    (true_ones.answer i Proved (proved_at answers i none settled below)).tells input c)
-
--- status 0 comes where no goal is refuted and none is unproved
-pub record IsClean (refuted unproved : Bool) : Type 0 where
-  pub none : refuted ≡ false
-  pub settled : unproved ≡ false
-
-status_zero : (a b : Bool) → verdict_status (if a then verdict.Refuted else (if b then verdict.Unproved else verdict.Verified)) ≡ 0 → IsClean a b
-status_zero true b e = absurd (omega arith)
-status_zero false true e = absurd (omega arith)
-status_zero false false e = record { none = refl; settled = refl }
+verified_correct : (p : ReadProgram) (events : List Event) (s : BoardState) (text : List ℕ) → IsBoardOf p events s → IsReport IsTrueCause p s text → verdict_of s ≡ verdict.Verified → IsCorrect (length p.program.names) p.program.lines
+verified_correct p events s text worked report verified =
+    no_counterexample_correct (length p.program.names) p.program.lines (λ input g c.
+    let below : g < goal_count s.program.lines =
+    subst (λ n. g < n) (sym (ap (λ (f : VersionedProgram). goal_count f.lines) report.form ∙ form_goal_count p.program))
+    (subst (λ j. j < goal_count p.program.lines) c.at.number (goal_number_below p.program.lines c.place c.at.goal)) in
+    let each = subst (VerdictSays s) verified report.verdict in
+    proved_tells (length p.program.names) p.program.lines g (answer_of s g) (each g below) (worked.answers g below).tells input c)
 
 -- status 0 of a whole text
-pub answered_correct : (bytes : List ℕ) (status : ℕ) (text : List ℕ) → IsAnswered bytes status text → status ≡ 0 → ReadsCorrect bytes
-answered_correct bytes status text answered zero_is = elim answered [
-  | inl a ↦ absurd (omega (arith, a.status_is, zero_is))
-  | inr (inl a) ↦ absurd (omega (arith, a.status_is, zero_is))
-  | inr (inr (inl a)) ↦ absurd (omega (arith, a.status_is, zero_is))
-  | inr (inr (inr (inl a))) ↦ absurd (omega (arith, a.status_is, zero_is))
-  | inr (inr (inr (inr r))) ↦
-      let clean = status_zero (any_refuted r.answers) (any_unproved r.answers) (sym r.status_is ∙ zero_is) in
-      record {
-        program = r.program;
-        accepted = r.accepted;
-        typed = r.typed;
-        correct = all_proved_correct _ r.program.program.lines _ r.answers r.are_true clean.none clean.settled;
-      }
+pub answered_correct : (bytes : List ℕ) (status : ℕ) (text : List ℕ) (events : List Event) → IsAnswered bytes status text events → status ≡ 0 → ReadsCorrect bytes
+answered_correct bytes status text events answered zero_is = elim answered [
+  | inl r ↦ elim r.refusal [
+    | inl a ↦ absurd (omega (arith, a.status_is, zero_is))
+    | inr (inl a) ↦ absurd (omega (arith, a.status_is, zero_is))
+    | inr (inr (inl a)) ↦ absurd (omega (arith, a.status_is, zero_is))
+    | inr (inr (inr a)) ↦ absurd (omega (arith, a.status_is, zero_is))
+  ]
+  | inr r ↦ record {
+    program = r.program;
+    accepted = r.accepted;
+    typed = r.typed;
+    correct = verified_correct r.program events r.board text r.worked r.report (status_zero (verdict_of r.board) (sym r.status_is ∙ zero_is));
+  }
+]
+
+-- the status of a whole text is never that of a write fault
+verdict_known : (v : Verdict) → verdict_status v ≡ 6 → ⊥
+verdict_known verdict.Verified e = absurd (omega (arith, e))
+verdict_known verdict.Refuted e = absurd (omega (arith, e))
+verdict_known verdict.Unproved e = absurd (omega (arith, e))
+
+pub answered_known : (bytes : List ℕ) (status : ℕ) (text : List ℕ) (events : List Event) → IsAnswered bytes status text events → status ≡ 6 → ⊥
+answered_known bytes status text events answered six = elim answered [
+  | inl r ↦ elim r.refusal [
+    | inl a ↦ omega (arith, a.status_is, six)
+    | inr (inl a) ↦ omega (arith, a.status_is, six)
+    | inr (inr (inl a)) ↦ omega (arith, a.status_is, six)
+    | inr (inr (inr a)) ↦ omega (arith, a.status_is, six)
+  ]
+  | inr r ↦ verdict_known (verdict_of r.board) (sym r.status_is ∙ six)
 ]

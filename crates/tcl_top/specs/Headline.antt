@@ -1,10 +1,9 @@
--- What the top call answers for the bytes that it reads: a status and a text.
+-- What the top call answers for the bytes that it reads: a status, a text, and the events of a board.
 use Rattle.std.specs.Prelude.{◌≡◌, ◌⊎◌, ◌<◌, ◌≤◌, ◌+◌, ℕ, Bool, true, false, ◌==◌, ◌||◌, codes, List, [], ◌∷◌, ◌++◌, length, take, Option}
 use Rattle.std.specs.Fmt.{decimal}
 use Rattle.tcl_io.specs.Source.{then_left, IsEmptied}
 use Rattle.tcl_io.specs.Sink.{and_then}
 use Rattle.tcl_lang.specs.Program.{ReadProgram}
-use Rattle.tcl_lang.specs.Versions.{form_of}
 use Rattle.tcl_lang.specs.Correct.{IsCorrect}
 use Rattle.tcl_lang.specs.Limit.{KeepsLimits}
 use Rattle.tcl_lang.specs.declared.reason.Reason.{Reason}
@@ -17,9 +16,12 @@ use Rattle.tcl_types.specs.Fault.{IsTyped, IsIll}
 use Rattle.tcl_top.specs.Words.{word_of_limit, word_of_reason}
 use Rattle.tcl_goals.specs.declared.piece.Verdict.{Verdict}
 use Rattle.tcl_goals.specs.declared.piece.Verdict.TheVariants as verdict
-use Rattle.tcl_top.specs.declared.answer.Answer.{Answer}
-use Rattle.tcl_top.specs.Answers.{AreTrueAnswers, verdict_of}
-use Rattle.tcl_top.specs.Report.{report_of}
+use Rattle.tcl_board.specs.declared.event.Event.{Event}
+use Rattle.tcl_board.specs.State.{BoardState}
+use Rattle.tcl_board.specs.Told.{verdict_of}
+use Rattle.tcl_kernel.specs.Causes.{IsTrueCause}
+use Rattle.tcl_report.specs.ReportSays.{IsReport}
+use Rattle.tcl_top.specs.Answers.{IsBoardOf}
 
 -- the greatest number of bytes of a text
 abbrev pub byte_limit : ℕ
@@ -83,22 +85,31 @@ pub record IsIllTyped (bytes : List ℕ) (status : ℕ) (text : List ℕ) : Type
   pub status_is : status ≡ 4
   pub text_is : text ≡ type_text number reason
 
--- the text is that of a well typed program, and this is the status and the text of a report on it of which every line is
--- true
-pub record IsReported (bytes : List ℕ) (status : ℕ) (text : List ℕ) : Type 0 where
+-- the status and the text of a refusal
+abbrev pub IsRefusal : List ℕ → ℕ → List ℕ → Type 0
+IsRefusal bytes status text =
+    IsOutsideGrammar bytes status text ⊎ IsOutOfPlace bytes status text ⊎ IsBeyondLimit bytes status text
+    ⊎ IsIllTyped bytes status text
+
+-- The text is that of a well typed program. The events are those of a finished board of this program; the text is the report
+-- on the program by what this board tells, of which every line is true; and the status is that of its verdict.
+pub record IsReported (bytes : List ℕ) (status : ℕ) (text : List ℕ) (events : List Event) : Type 0 where
   pub program : ReadProgram
   pub accepted : IsAccepted bytes program
   pub typed : IsTyped program
-  pub answers : List Answer
-  pub are_true : AreTrueAnswers (length program.program.names) program.program.lines (form_of program.program) answers
-  pub status_is : status ≡ verdict_status (verdict_of answers)
-  pub text_is : text ≡ report_of program answers
+  pub board : BoardState
+  pub worked : IsBoardOf program events board
+  pub report : IsReport IsTrueCause program board text
+  pub status_is : status ≡ verdict_status (verdict_of board)
 
--- the status and the text for a text that was read to its end
-abbrev pub IsAnswered : List ℕ → ℕ → List ℕ → Type 0
-IsAnswered bytes status text =
-    IsOutsideGrammar bytes status text ⊎ IsOutOfPlace bytes status text ⊎ IsBeyondLimit bytes status text
-    ⊎ IsIllTyped bytes status text ⊎ IsReported bytes status text
+-- a refusal, which comes without events
+pub record IsRefused (bytes : List ℕ) (status : ℕ) (text : List ℕ) (events : List Event) : Type 0 where
+  pub refusal : IsRefusal bytes status text
+  pub none : events ≡ []
+
+-- the status, the text and the events for a text that was read to its end
+abbrev pub IsAnswered : List ℕ → ℕ → List ℕ → List Event → Type 0
+IsAnswered bytes status text events = IsRefused bytes status text events ⊎ IsReported bytes status text events
 
 -- the source was read to its end, and these are the bytes that it gave
 pub record IsReadWhole (left left_new : Option (List ℕ)) (given given_new : ℕ) (bytes : List ℕ) : Type 0 where
@@ -108,54 +119,59 @@ pub record IsReadWhole (left left_new : Option (List ℕ)) (given given_new : �
   pub within : length bytes ≤ byte_limit
 
 -- there is a word: the refusal of usage
-pub record IsUsageRow (words status : ℕ) (text : List ℕ) : Type 0 where
+pub record IsUsageRow (words status : ℕ) (text : List ℕ) (events : List Event) : Type 0 where
   pub some_word : 0 < words
+  pub none : events ≡ []
   pub status_is : status ≡ 8
   pub text_is : text ≡ usage_text
 
 -- more bytes were read than a text may have: the refusal by the limit
-pub record IsLimitRow (words given given_new status : ℕ) (text : List ℕ) : Type 0 where
+pub record IsLimitRow (words given given_new status : ℕ) (text : List ℕ) (events : List Event) : Type 0 where
   pub no_word : words ≡ 0
+  pub none : events ≡ []
   pub beyond : given + byte_limit < given_new
   pub status_is : status ≡ 9
   pub text_is : text ≡ limit_text (codes "bytes")
 
 -- a whole text was read: its report, or its refusal
-pub record IsAnswerRow (words : ℕ) (left left_new : Option (List ℕ)) (given given_new status : ℕ) (text : List ℕ) : Type 0 where
+pub record IsAnswerRow (words : ℕ) (left left_new : Option (List ℕ)) (given given_new status : ℕ) (text : List ℕ) (events : List Event) : Type 0 where
   pub no_word : words ≡ 0
   pub bytes : List ℕ
   pub read : IsReadWhole left left_new given given_new bytes
-  pub answered : IsAnswered bytes status text
+  pub answered : IsAnswered bytes status text events
 
--- the status and the text that belong to the words and to what was read
-abbrev pub IsRow : ℕ → Option (List ℕ) → Option (List ℕ) → ℕ → ℕ → ℕ → List ℕ → Type 0
-IsRow words left left_new given given_new status text =
-    IsUsageRow words status text ⊎ IsLimitRow words given given_new status text
-    ⊎ IsAnswerRow words left left_new given given_new status text
+-- the status, the text and the events that belong to the words and to what was read
+abbrev pub IsRow : ℕ → Option (List ℕ) → Option (List ℕ) → ℕ → ℕ → ℕ → List ℕ → List Event → Type 0
+IsRow words left left_new given given_new status text events =
+    IsUsageRow words status text events ⊎ IsLimitRow words given given_new status text events
+    ⊎ IsAnswerRow words left left_new given given_new status text events
 
--- the whole text was written
-pub record IsWritten (taken taken_new : Option (List ℕ)) (status : ℕ) (text : List ℕ) (answer written : ℕ) : Type 0 where
+-- the whole text was written, and its events are handed over
+pub record IsWritten (taken taken_new : Option (List ℕ)) (status : ℕ) (text : List ℕ) (events : List Event) (answer written : ℕ) (steps : List Event) : Type 0 where
   pub status_is : answer ≡ status
   pub written_is : written ≡ length text
+  pub events_are : steps ≡ events
   pub sink : taken_new ≡ and_then taken text
 
 -- the sink failed after the first `written` bytes of the text
-pub record IsCutOff (taken taken_new : Option (List ℕ)) (text : List ℕ) (answer written : ℕ) : Type 0 where
+pub record IsCutOff (taken taken_new : Option (List ℕ)) (text : List ℕ) (answer written : ℕ) (steps : List Event) : Type 0 where
   pub status_is : answer ≡ 6
   pub short : written < length text
+  pub none : steps ≡ []
   pub sink : taken_new ≡ and_then taken (take written text)
 
 -- a status and a text were handed to the sink: the text was written whole, or the answer is 6
-abbrev pub IsDelivered : Option (List ℕ) → Option (List ℕ) → ℕ → List ℕ → ℕ → ℕ → Type 0
-IsDelivered taken taken_new status text answer written =
-    IsWritten taken taken_new status text answer written ⊎ IsCutOff taken taken_new text answer written
+abbrev pub IsDelivered : Option (List ℕ) → Option (List ℕ) → ℕ → List ℕ → List Event → ℕ → ℕ → List Event → Type 0
+IsDelivered taken taken_new status text events answer written steps =
+    IsWritten taken taken_new status text events answer written steps ⊎ IsCutOff taken taken_new text answer written steps
 
 -- the text of some row was delivered
-pub record DeliversRow (words : ℕ) (left left_new : Option (List ℕ)) (given given_new : ℕ) (taken taken_new : Option (List ℕ)) (answer written : ℕ) : Type 0 where
+pub record DeliversRow (words : ℕ) (left left_new : Option (List ℕ)) (given given_new : ℕ) (taken taken_new : Option (List ℕ)) (answer written : ℕ) (steps : List Event) : Type 0 where
   pub status : ℕ
   pub text : List ℕ
-  pub row_is : IsRow words left left_new given given_new status text
-  pub delivered : IsDelivered taken taken_new status text answer written
+  pub events : List Event
+  pub row_is : IsRow words left left_new given given_new status text events
+  pub delivered : IsDelivered taken taken_new status text events answer written steps
 
 -- the program that was read is correct
 pub record ReadsCorrect (bytes : List ℕ) : Type 0 where

@@ -1,10 +1,4 @@
 pub mod Words
-pub mod Left
-pub mod Reduced
-pub mod Trials
-pub mod Searched
 pub mod Answers
-pub mod Worked
-pub mod Recording
-pub mod Report
 pub mod Headline
+pub mod WorkedBoard
