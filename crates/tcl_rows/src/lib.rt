@@ -4,6 +4,8 @@
 #[cfg(test)]
 mod canonical;
 #[cfg(test)]
+mod events;
+#[cfg(test)]
 mod example_limbs;
 #[cfg(test)]
 mod example_reductions;
