@@ -13,6 +13,3 @@ mod words;
 
 pub use calls::{exactness, instruction, range};
 pub use words::Words;
-
-#[cfg(test)]
-mod tests;
