@@ -1,7 +1,7 @@
 -- What the answers of the kernel say of a fact in order, and of an input.
-use Rattle.std.proofs.Common.{◌≡◌, ◌≤◌, ℕ, Bool, true, false, List, [], ◌∷◌, length, refl, sym, ◌∙◌, ap, Option, Some, None, Result, Ok, Err}
-use Rattle.std.specs.Prelude.{is_none, IfOk}
-use Rattle.std.specs.List.{list_any}
+use Rattle.std.proofs.Common.{◌≡◌, ◌≤◌, ℕ, nat_eq, eqb-true, Bool, true, false, ◌||◌, if◌then◌else◌, inl, List, [], ◌∷◌, length, refl, sym, ◌∙◌, ap, subst, Option, Some, None, Result, Ok, Err}
+use Rattle.std.specs.Prelude.{is_none, is_some, IfOk}
+use Rattle.tcl_list.proofs.Booleans.{if_no}
 use Rattle.std.proofs.lemmas.Bool.{and_parts}
 use Rattle.tcl_lang.specs.Program.{VersionedProgram}
 use Rattle.tcl_lang.specs.declared.pred.Line.{Line}
@@ -9,9 +9,11 @@ use Rattle.tcl_lang.specs.Form.{IsWellFormed}
 use Rattle.tcl_goals.specs.declared.fact.Fact.{Fact}
 use Rattle.tcl_goals.specs.declared.fact.Hyp.{Hyp}
 use Rattle.tcl_goals.specs.declared.fact.Hyp.TheVariants as hyp
+use Rattle.tcl_goals.specs.declared.lemma.Lemma.{Lemma}
+use Rattle.tcl_goals.specs.declared.lemma.Numbered.{Numbered}
 use Rattle.tcl_goals.specs.LemmaList.{lemma_of}
 use Rattle.tcl_goals.specs.Order.{has_hyp, has_hyps, InOrder}
-use Rattle.tcl_board.specs.Shows.{is_lemma}
+use Rattle.tcl_gate.specs.Fits.{CitesGiven}
 use Rattle.tcl_remainder.specs.declared.lines.CofactorLine.{CofactorLine}
 use Rattle.tcl_kernel.specs.declared.reason.Reason.{Reason}
 use Rattle.tcl_kernel.specs.declared.reason.Reason.TheVariants as reason
@@ -24,13 +26,14 @@ use Rattle.tcl_kernel.specs.BoundsCertificate.{is_algebraic_claim, is_bounded, b
 use Rattle.tcl_kernel.specs.EnumerationCertificate.{is_enumerated, enumeration_reason}
 use Rattle.tcl_kernel.specs.CofactorCertificate.{CofactorCheck}
 use Rattle.tcl_kernel.specs.Certificates.{first_reason, stands_alone}
-use Rattle.tcl_kernel.specs.Cited.{proof_of}
+use Rattle.tcl_kernel.specs.Cited.{cites, cited_lemmas, proof_of}
 use Rattle.tcl_kernel.specs.Shown.{ProofContent}
 use Rattle.tcl_kernel.proofs.Soundness.{order_entry, reasons_exact}
 use Rattle.tcl_cnf.specs.declared.answer.LogAnswer.TheVariants.{Refutes}
 use Rattle.tcl_cnf.specs.Log.{log_answer}
 use Rattle.tcl_cnf.proofs.LogLemmas.{answer_refutes}
 use Rattle.tcl_blast.specs.Clauses.{clauses_of, clause_limit}
+use Rattle.tcl_worker.specs.Citing.{CitesAllOrNone}
 use Rattle.tcl_worker.specs.Proofs.{ProvesFact, IsTaken}
 
 -- where nothing was shown before
@@ -51,30 +54,59 @@ pub none_where : (o : Option Reason) → is_none o ≡ true → o ≡ None
 none_where None e = refl
 none_where (Some r) e = absurd (cc)
 
--- the hypotheses of a fact that is in order for no lemma cite none
-cites_step : (lines : List Line) (h : Hyp) (hyps : List Hyp) (n : ℕ) → has_hyps lines [] (h ∷ hyps) ≡ true → list_any (is_lemma n) (h ∷ hyps) ≡ true → (has_hyps lines [] hyps ≡ true → list_any (is_lemma n) hyps ≡ true → ⊥) → ⊥
-unfolding lemma_of
-cites_step lines (hyp.Line k) hyps n has one later = later (and_parts (has_hyp lines [] (hyp.Line k)) (has_hyps lines [] hyps) has).1 one
-cites_step lines (hyp.Lemma m) hyps n has one later = clash (and_parts (has_hyp lines [] (hyp.Lemma m)) (has_hyps lines [] hyps) has).0
+-- the lemmas that a fact in order cites are of the list, and among those that a proof keeps
+same_number : (cites_it : (n : ℕ) → Bool) (a n : ℕ) (b : Bool) → nat_eq a n ≡ b → cites_it a ≡ false → cites_it n ≡ true → b ≡ false
+same_number cites_it a n true q none one = absurd (clash (cites_it n) (sym (ap cites_it (eqb-true a n q)) ∙ none) one)
   where
-    clash : false ≡ true → ⊥
-    clash e = cc
+    clash : (c : Bool) → c ≡ false → c ≡ true → ⊥
+    clash c e f = cc
+same_number cites_it a n false q none one = refl
 
-pub cites_none : (lines : List Line) (hyps : List Hyp) (n : ℕ) → has_hyps lines [] hyps ≡ true → list_any (is_lemma n) hyps ≡ true → ⊥
-cites_none lines [] n has one = absurd (cc)
-cites_none lines (h ∷ hyps) n has one = cites_step lines h hyps n has one (cites_none lines hyps n)
+kept_step : (hyps : List Hyp) (a : Numbered) (rest : List Numbered) (n : ℕ) → cites hyps n ≡ true → lemma_of (cited_lemmas hyps rest) n ≡ lemma_of rest n → (b : Bool) → cites hyps a.number ≡ b → lemma_of (if b then a ∷ cited_lemmas hyps rest else cited_lemmas hyps rest) n ≡ lemma_of (a ∷ rest) n
+unfolding lemma_of
+kept_step hyps a rest n one same true q = ap (λ o. if nat_eq a.number n then Some a.lemma else o) same
+kept_step hyps a rest n one same false q =
+    same ∙ sym (if_no (nat_eq a.number n) (Some a.lemma) (lemma_of rest n) (same_number (cites hyps) a.number n (nat_eq a.number n) refl q one))
 
--- a proof of a fact that is in order for no lemma
-pub proves_own : (p : VersionedProgram) (fact : Fact) (proof : ProofContent) → InOrder p [] fact → proof ≡ proof_of p [] fact true → ProvesFact p [] fact proof
-proves_own p fact proof order e = record {
+kept : (hyps : List Hyp) (lemmas : List Numbered) (n : ℕ) → cites hyps n ≡ true → lemma_of (cited_lemmas hyps lemmas) n ≡ lemma_of lemmas n
+unfolding cited_lemmas
+kept hyps [] n one = refl
+kept hyps (a ∷ lemmas) n one = kept_step hyps a lemmas n one (kept hyps lemmas n one) (cites hyps a.number) refl
+
+found_here : (lines : List Line) (lemmas : List Numbered) (h : Hyp) (hyps : List Hyp) (n : ℕ) → has_hyps lines lemmas (h ∷ hyps) ≡ true → cites (h ∷ hyps) n ≡ true → (has_hyps lines lemmas hyps ≡ true → cites hyps n ≡ true → is_some (lemma_of lemmas n) ≡ true) → is_some (lemma_of lemmas n) ≡ true
+found_here lines lemmas (hyp.Line k) hyps n has one later = later (and_parts (has_hyp lines lemmas (hyp.Line k)) (has_hyps lines lemmas hyps) has).1 one
+found_here lines lemmas (hyp.Lemma m) hyps n has one later = at (nat_eq m n) refl one
+  where
+    at : (b : Bool) → nat_eq m n ≡ b → (b || cites hyps n) ≡ true → is_some (lemma_of lemmas n) ≡ true
+    at true q e = ap (λ k. is_some (lemma_of lemmas k)) (sym (eqb-true m n q)) ∙ (and_parts (has_hyp lines lemmas (hyp.Lemma m)) (has_hyps lines lemmas hyps) has).0
+    at false q e = later (and_parts (has_hyp lines lemmas (hyp.Lemma m)) (has_hyps lines lemmas hyps) has).1 e
+
+found : (lines : List Line) (lemmas : List Numbered) (hyps : List Hyp) (n : ℕ) → has_hyps lines lemmas hyps ≡ true → cites hyps n ≡ true → is_some (lemma_of lemmas n) ≡ true
+found lines lemmas [] n has one = absurd (cc)
+found lines lemmas (h ∷ hyps) n has one = found_here lines lemmas h hyps n has one (found lines lemmas hyps n)
+
+there : (o : Option Lemma) → is_some o ≡ true → (m : Lemma) × (o ≡ Some m)
+there None e = absurd (cc)
+there (Some m) e = (m, refl)
+
+cites_given : (p : VersionedProgram) (lemmas : List Numbered) (fact : Fact) → InOrder p lemmas fact → CitesGiven lemmas (cited_lemmas fact.hyps lemmas) fact
+cites_given p lemmas fact order n one =
+    let m = there (lemma_of lemmas n) (found p.lines lemmas fact.hyps n order.hyps one) in
+    record { lemma = m.0; in_given = m.1; in_cited = kept fact.hyps lemmas n one ∙ m.1 }
+
+-- a proof of a fact that is in order for these lemmas
+pub proves_one_of : (p : VersionedProgram) (lemmas : List Numbered) (fact proved : Fact) (proof : ProofContent) → InOrder p lemmas proved → CitesAllOrNone p.lines lemmas fact proved → proof ≡ proof_of p lemmas proved true → ProvesFact p lemmas fact proof
+proves_one_of p lemmas fact proved proof order which e = record {
   program = ap (λ (x : ProofContent). x.program) e;
   alone = ap (λ (x : ProofContent). x.alone) e;
-  proved = fact;
+  proved = proved;
   shown_is = ap (λ (x : ProofContent). x.shown) e;
-  claim = refl;
-  cube = refl;
-  cites = λ n one. absurd (cites_none p.lines fact.hyps n order.hyps one);
+  which = which;
+  cites = subst (λ cited. CitesGiven lemmas cited proved) (sym (ap (λ (x : ProofContent). x.cited) e)) (cites_given p lemmas proved order);
 }
+
+pub proves_own : (p : VersionedProgram) (fact : Fact) (proof : ProofContent) → InOrder p [] fact → proof ≡ proof_of p [] fact true → ProvesFact p [] fact proof
+proves_own p fact proof order e = proves_one_of p [] fact fact proof order (inl refl) e
 
 -- the same where the facts shown before are these
 pub proves_begun : (p : VersionedProgram) (earlier : Earlier) (fact : Fact) (proof : ProofContent) → earlier ≡ beginning p → InOrder p [] fact → proof ≡ proof_of p earlier.lemmas fact true → ProvesFact p [] fact proof
@@ -112,10 +144,10 @@ walk_tells p fact order taken =
 pub begun_tells : (p : VersionedProgram) (earlier : Earlier) (fact : Fact) (c : Cert) → earlier ≡ beginning p → first_reason p (beginning p) fact c ≡ None → first_reason p earlier fact c ≡ None
 begun_tells p earlier fact c begins none = ap (λ (x : Earlier). first_reason p x fact c) begins ∙ none
 
-pub log_tells : (p : VersionedProgram) (fact : Fact) (lines : List (List ℕ)) → IsWellFormed p → InOrder p [] fact → is_algebraic_claim p.lines fact.claim ≡ false → length (clauses_of p [] fact) ≤ clause_limit → log_answer (clauses_of p [] fact) lines ≡ Refutes → first_reason p (beginning p) fact (cert.Log lines) ≡ None
-log_tells p fact lines w order range few refutes =
-    (reasons_exact p (beginning p) fact (cert.Log lines) w).1
-    (record { order = order; certificate = record { range = range; few = few; refutes = (answer_refutes (clauses_of p [] fact) lines (log_answer (clauses_of p [] fact) lines) refl).0 refutes } })
+pub log_tells : (p : VersionedProgram) (earlier : Earlier) (fact : Fact) (lines : List (List ℕ)) → IsWellFormed p → InOrder p earlier.lemmas fact → is_algebraic_claim p.lines fact.claim ≡ false → length (clauses_of p earlier.lemmas fact) ≤ clause_limit → log_answer (clauses_of p earlier.lemmas fact) lines ≡ Refutes → first_reason p earlier fact (cert.Log lines) ≡ None
+log_tells p earlier fact lines w order range few refutes =
+    (reasons_exact p earlier fact (cert.Log lines) w).1
+    (record { order = order; certificate = record { range = range; few = few; refutes = (answer_refutes (clauses_of p earlier.lemmas fact) lines (log_answer (clauses_of p earlier.lemmas fact) lines) refl).0 refutes } })
 
 pub cofactors_tell : (p : VersionedProgram) (fact : Fact) (lines : List CofactorLine) → IsWellFormed p → InOrder p [] fact → CofactorCheck p [] fact lines → first_reason p (beginning p) fact (cert.Cofactors lines) ≡ None
 cofactors_tell p fact lines w order checks =

@@ -1,5 +1,5 @@
 -- What is given for a piece fits it.
-use Rattle.std.proofs.Common.{◌≡◌, ◌<◌, ℕ, ℤ, Bool, true, false, ◌&&◌, List, [], ◌∷◌, refl, sym, ◌∙◌, ap, subst, arith, nat_eq, eq-eqb, Some, None}
+use Rattle.std.proofs.Common.{◌≡◌, ◌<◌, ℕ, ℤ, Bool, true, false, ◌&&◌, List, [], ◌∷◌, refl, sym, ◌∙◌, ap, subst, arith, nat_eq, eq-eqb, map, inl, inr, Some, None}
 use Rattle.std.proofs.lemmas.Bool.{and_from}
 use Rattle.tcl_lang.specs.Program.{VersionedProgram}
 use Rattle.tcl_lang.specs.Form.{IsWellFormed}
@@ -7,9 +7,12 @@ use Rattle.tcl_lang.specs.declared.outcome.Truth.{Truth}
 use Rattle.tcl_lang.specs.declared.outcome.Truth.TheVariants.{No}
 use Rattle.tcl_goals.specs.declared.cause.Cause.{Cause}
 use Rattle.tcl_goals.specs.declared.cause.Cause.TheVariants as cause
+use Rattle.tcl_lang.specs.declared.pred.Line.{Line}
 use Rattle.tcl_goals.specs.declared.fact.BitLit.{BitLit}
 use Rattle.tcl_goals.specs.declared.fact.Claim.TheVariants as claim
 use Rattle.tcl_goals.specs.declared.fact.Fact.{Fact}
+use Rattle.tcl_goals.specs.declared.fact.Hyp.{Hyp}
+use Rattle.tcl_goals.specs.declared.fact.Hyp.TheVariants as hyp
 use Rattle.tcl_goals.specs.declared.lemma.Lemma.{Lemma}
 use Rattle.tcl_goals.specs.declared.lemma.Numbered.{Numbered}
 use Rattle.tcl_goals.specs.declared.piece.Piece.{Piece}
@@ -19,6 +22,7 @@ use Rattle.tcl_goals.specs.declared.piece.Shown.TheVariants as shown
 use Rattle.tcl_goals.specs.LemmaList.{LemmaList, lemma_of}
 use Rattle.tcl_goals.specs.Places.{goal_place}
 use Rattle.tcl_goals.specs.Slices.{cut_fact, whole_fact, route_fact}
+use Rattle.tcl_goals.specs.Order.{InOrder}
 use Rattle.tcl_goals.specs.Plans.{is_algebraic_goal, piece_fact, IsPiece}
 use Rattle.tcl_board.specs.declared.evidence.Outcome.TheVariants as outcome
 use Rattle.tcl_board.specs.declared.evidence.Seen.TheVariants as seen
@@ -40,8 +44,15 @@ use Rattle.tcl_worker.specs.Settled.{IsSettledBy}
 use Rattle.tcl_worker.specs.Inputs.{IsFirstInput}
 use Rattle.tcl_worker.specs.Proofs.{ProvesFact}
 use Rattle.tcl_worker.specs.Strays.{IsFalseGoal}
-use Rattle.tcl_worker.specs.Worked.{IsFailing, IsModelled, IsModelInput}
-use Rattle.tcl_worker.specs.Outcomes.{IsComplete, IsOutcome, IsOwnOutcome}
+use Rattle.tcl_worker.specs.Worked.{IsFailing, IsModelled, IsModelInput, IsWorked}
+use Rattle.tcl_worker.specs.Outcomes.{IsComplete, IsPieceFact, IsOutcome, IsOwnOutcome}
+use Rattle.tcl_worker.specs.Citing.{entry_of, with_entries, with_lemmas, CitesAllOrNone}
+use Rattle.tcl_worker.specs.declared.search_end.LemmaEnd.{LemmaEnd}
+use Rattle.tcl_worker.specs.declared.search_end.LemmaEnd.TheVariants as lemma_end
+use Rattle.tcl_worker.specs.declared.worked.Worked.{Worked}
+use Rattle.tcl_worker.specs.declared.worked.Worked.TheVariants as worked
+use Rattle.tcl_worker.specs.SearchEnds.{IsCitingEnd, IsLemmaEnd}
+use Rattle.tcl_worker.proofs.Checks.{proves_one_of}
 use Rattle.tcl_goals.proofs.PieceOrder.{piece_in_order}
 use Rattle.tcl_worker.proofs.Breaking.{found_checks}
 use Rattle.tcl_worker.proofs.Ends.{piece_claim, piece_open}
@@ -89,11 +100,17 @@ proves_it q fact claimed cube =
     (ap (λ c. is_goal_claim c q.goal) claimed ∙ eq-eqb q.goal q.goal refl)
     (ap (λ c. same_bits c q.cube) cube ∙ same_cube q.cube)
 
+claim_cube : (p : VersionedProgram) (q : Piece) (lemmas : List Numbered) (proved : Fact) → CitesAllOrNone p.lines lemmas (piece_fact p q) proved → proves_piece q proved ≡ true
+claim_cube p q lemmas proved (inl e) =
+    proves_it q proved (ap (λ (f : Fact). f.claim) e ∙ goal_claimed p q) (ap (λ (f : Fact). f.cube) e ∙ cube_given p q)
+claim_cube p q lemmas proved (inr e) =
+    proves_it q proved (ap (λ (f : Fact). f.claim) e ∙ goal_claimed p q) (ap (λ (f : Fact). f.cube) e ∙ cube_given p q)
+
 pub proof_outcome : (p : VersionedProgram) (budget : ℕ) (q : Piece) (lemmas : LemmaList) (proof : ProofContent) → ProvesFact p lemmas.items (piece_fact p q) proof → IsOutcome p budget q lemmas (outcome.Shown proof)
 proof_outcome p budget q lemmas proof proves = record {
   speaks = record { program = proves.program; alone = proves.alone };
   fits = subst (λ sh. FitsPiece IsTrueCause p budget q lemmas (seen.Shown sh proof.cited)) (sym proves.shown_is) (record {
-    proves = proves_it q proves.proved (proves.claim ∙ goal_claimed p q) (proves.cube ∙ cube_given p q);
+    proves = claim_cube p q lemmas.items proves.proved proves.which;
     cites = proves.cites;
   });
   complete = subst (λ sh. IsComplete p budget q (seen.Shown sh proof.cited)) (sym proves.shown_is) (record {
@@ -102,9 +119,23 @@ proof_outcome p budget q lemmas proof proves = record {
     first = λ r w. tt;
     tried = λ r a w. tt;
   });
+  fact = subst (λ sh. IsPieceFact p q lemmas (seen.Shown sh proof.cited)) (sym proves.shown_is) proves.which;
 }
 
 -- one that cites no lemma cites none but these
+same_hyps : (hyps : List Hyp) → map (λ e. e.hyp) (map entry_of hyps) ≡ hyps
+same_hyps [] = refl
+same_hyps (hyp.Line k ∷ hyps) = ap (λ hs. hyp.Line k ∷ hs) (same_hyps hyps)
+same_hyps (hyp.Lemma n ∷ hyps) = ap (λ hs. hyp.Lemma n ∷ hs) (same_hyps hyps)
+
+with_none : (lines : List Line) (fact : Fact) → with_lemmas lines [] fact ≡ fact
+unfolding with_entries
+with_none lines fact = ap (λ hs. record fact { hyps = hs }) (same_hyps fact.hyps)
+
+itself : (p : VersionedProgram) (lemmas : List Numbered) (fact proved : Fact) → CitesAllOrNone p.lines [] fact proved → CitesAllOrNone p.lines lemmas fact proved
+itself p lemmas fact proved (inl e) = inl e
+itself p lemmas fact proved (inr e) = inl (e ∙ with_none p.lines fact)
+
 pub proves_by_none : (p : VersionedProgram) (lemmas : List Numbered) (fact : Fact) (proof : ProofContent) → ProvesFact p [] fact proof → ProvesFact p lemmas fact proof
 unfolding lemma_of
 proves_by_none p lemmas fact proof proves = record {
@@ -112,13 +143,25 @@ proves_by_none p lemmas fact proof proves = record {
   alone = proves.alone;
   proved = proves.proved;
   shown_is = proves.shown_is;
-  claim = proves.claim;
-  cube = proves.cube;
+  which = itself p lemmas fact proves.proved proves.which;
   cites = λ n one. absurd (none (proves.cites n one).lemma (proves.cites n one).in_given);
 }
   where
     none : (m : Lemma) → None ≡ Some m → ⊥
     none m e = cc
+
+pub worked_by_none : (p : VersionedProgram) (budget : ℕ) (lemmas : List Numbered) (fact : Fact) (w : Worked) → IsWorked p budget [] fact w → IsWorked p budget lemmas fact w
+worked_by_none p budget lemmas fact (worked.Proved proof) h = proves_by_none p lemmas fact proof h
+worked_by_none p budget lemmas fact (worked.Fails input) h = h
+worked_by_none p budget lemmas fact (worked.Model bits) h = h
+worked_by_none p budget lemmas fact (worked.Open c) h = h
+worked_by_none p budget lemmas fact worked.Stopped h = h
+
+-- the end of a search of the fact with all lemmas
+pub citing_end : (p : VersionedProgram) (lemmas : List Numbered) (fact cited : Fact) (e : LemmaEnd) → cited ≡ with_lemmas p.lines lemmas fact → InOrder p lemmas cited → IsCitingEnd p lemmas cited e → IsLemmaEnd p lemmas fact e
+citing_end p lemmas fact cited (lemma_end.Proved proof) with_all order e = proves_one_of p lemmas fact cited proof order (inr with_all) e
+citing_end p lemmas fact cited lemma_end.Vain with_all order e = tt
+citing_end p lemmas fact cited lemma_end.Stopped with_all order e = tt
 
 -- an input that breaks a goal up to that of the piece, and what is asked of it
 record IsGoodBreak (p : VersionedProgram) (budget : ℕ) (q : Piece) (g : ℕ) (input : List ℤ) : Type 0 where
@@ -128,7 +171,7 @@ record IsGoodBreak (p : VersionedProgram) (budget : ℕ) (q : Piece) (g : ℕ) (
 break_outcome : (p : VersionedProgram) (budget : ℕ) (q : Piece) (g : ℕ) (input : List ℤ) (proof : ProofContent) → proof ≡ break_proof p g input → IsGoodBreak p budget q g input → IsOwnOutcome p budget q (outcome.Shown proof)
 break_outcome p budget q g input proof e good lemmas =
     subst (λ (x : ProofContent). IsOutcome p budget q lemmas (outcome.Shown x)) (sym e)
-    (record { speaks = record { program = refl; alone = refl }; fits = good.fits; complete = good.complete })
+    (record { speaks = record { program = refl; alone = refl }; fits = good.fits; complete = good.complete; fact = tt })
 
 -- a break of the piece's own goal fits it
 own_goal : (p : VersionedProgram) (budget : ℕ) (q : Piece) (input : List ℤ) → FitsBreak IsTrueCause p budget q q.goal input
@@ -157,6 +200,7 @@ cause_outcome p budget q c true_of not_broken complete lemmas = record {
   speaks = tt;
   fits = record { true_of = true_of; not_broken = not_broken };
   complete = complete;
+  fact = tt;
 }
 
 -- a model of a cut piece: an assignment at which its walk ends, and bits that meet its clauses

@@ -1,3 +1,4 @@
+pub mod Entries
 pub mod InputLines
 pub mod Conflicts
 pub mod FirstInputs

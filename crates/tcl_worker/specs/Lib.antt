@@ -3,7 +3,10 @@ pub mod Searched
 pub mod Settled
 pub mod Inputs
 pub mod Trials
+pub mod Citing
+pub mod Entries
 pub mod Proofs
 pub mod Strays
 pub mod Worked
 pub mod Outcomes
+pub mod SearchEnds

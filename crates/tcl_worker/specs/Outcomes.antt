@@ -18,6 +18,7 @@ use Rattle.tcl_gate.specs.Fits.{FitsPiece}
 use Rattle.tcl_kernel.specs.Shown.{ProofContent}
 use Rattle.tcl_kernel.specs.Causes.{is_walked_by, IsTrueCause}
 use Rattle.tcl_kernel.specs.Trials.{trial_count, NoTrialRefutes}
+use Rattle.tcl_worker.specs.Citing.{CitesAllOrNone}
 use Rattle.tcl_worker.specs.Settled.{IsSettledBy}
 use Rattle.tcl_worker.specs.Inputs.{IsFirstInput}
 use Rattle.tcl_worker.specs.Trials.{IsFirstTrial}
@@ -72,11 +73,19 @@ steps_of _ = 0
 abbrev pub seen_in : Outcome ProofContent → Seen
 seen_in o = seen_of (λ e. e.shown) (λ e. e.cited) o
 
+-- the fact that is shown is that of the piece, or that with all these lemmas
+abbrev pub IsPieceFact : VersionedProgram → Piece → LemmaList → Seen → Type 0
+IsPieceFact p q lemmas (seen.Shown (shown.Fact fact) cited) = CitesAllOrNone p.lines lemmas.items (piece_fact p q) fact
+IsPieceFact p q lemmas (seen.Shown (shown.Breaks g input) cited) = Unit {0}
+IsPieceFact p q lemmas (seen.Lemma sh cited) = Unit {0}
+IsPieceFact p q lemmas (seen.Ended c) = Unit {0}
+
 -- the outcome of a piece by these lemmas
 pub record IsOutcome (p : VersionedProgram) (budget : ℕ) (q : Piece) (lemmas : LemmaList) (o : Outcome ProofContent) : Type 0 where
   pub speaks : OutcomeSpeaks p (λ e. e.program) (λ e. e.alone) o
   pub fits : FitsPiece IsTrueCause p budget q lemmas (seen_in o)
   pub complete : IsComplete p budget q (seen_in o)
+  pub fact : IsPieceFact p q lemmas (seen_in o)
 
 -- the same whatever the lemmas: an outcome that cites none
 abbrev pub IsOwnOutcome : VersionedProgram → ℕ → Piece → Outcome ProofContent → Type 0

@@ -7,15 +7,15 @@ use Rattle.tcl_goals.specs.declared.piece.Shown.TheVariants as shown
 use Rattle.tcl_gate.specs.Fits.{CitesGiven}
 use Rattle.tcl_kernel.specs.declared.reason.Reason.{Reason}
 use Rattle.tcl_kernel.specs.Shown.{ProofContent}
+use Rattle.tcl_worker.specs.Citing.{CitesAllOrNone}
 
--- the proof stands alone, and shows a fact with the same claim and cube, which cites none but these lemmas
+-- the proof stands alone, and shows the fact itself, or the fact with all these lemmas, which it cites as they are
 pub record ProvesFact (p : VersionedProgram) (lemmas : List Numbered) (fact : Fact) (proof : ProofContent) : Type 0 where
   pub program : proof.program ≡ p
   pub alone : proof.alone ≡ true
   pub proved : Fact
   pub shown_is : proof.shown ≡ shown.Fact proved
-  pub claim : proved.claim ≡ fact.claim
-  pub cube : proved.cube ≡ fact.cube
+  pub which : CitesAllOrNone p.lines lemmas fact proved
   pub cites : CitesGiven lemmas proof.cited proved
 
 -- the proof exactly where there is no reason against it

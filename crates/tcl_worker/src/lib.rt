@@ -3,11 +3,17 @@
 #![tactic(auto)]
 
 mod checking;
+mod citing;
+mod clause_search;
+mod entry;
 mod facts;
 mod inputs;
+mod lemma_search;
+mod logs;
 mod models;
 mod outcomes;
 mod reducing;
+mod search_end;
 mod searching;
 mod strays;
 mod trying;

@@ -1,34 +1,75 @@
-//! The work on a fact that neither the intervals nor a walk settle: its clauses are searched.
+//! The work on a fact that neither the intervals nor a walk settle: its clauses are searched, first with the lemmas.
 
 ghost use Rattle.std.specs.Prelude.{◌≡◌, ◌≤◌, ◌<◌, ◌^◌, ◌-◌, ◌*◌, false, [], IfOk, length};
 ghost use Rattle.tcl_lang.specs.Form.{IsWellFormed};
-ghost use Rattle.tcl_cnf.specs.Log.{log_answer};
-ghost use Rattle.tcl_cnf.specs.declared.answer.LogAnswer.TheVariants.{Refutes};
 ghost use Rattle.tcl_goals.specs.Order.{InOrder};
 ghost use Rattle.tcl_blast.specs.Clauses.{clauses_of, clause_limit};
 ghost use Rattle.tcl_kernel.specs.BoundsCertificate.{is_bounded, is_algebraic_claim};
 ghost use Rattle.tcl_kernel.specs.Causes.{is_walked_by};
-ghost use Rattle.tcl_worker.specs.Proofs.{ProvesFact};
 ghost use Rattle.tcl_worker.specs.Worked.{IsWorked, IsStopped, steps_told};
 
-use crate::checking::proof_of;
+use crate::clause_search::search_end;
+use crate::lemma_search::by_lemmas;
+use crate::logs::proved_by_log;
 use crate::reducing::reduced;
+use crate::search_end::{LemmaEnd, SearchEnd};
 use crate::worked::Worked;
 use std::alloc::{AllocError, Global};
 use tcl_blast::{BlastEnd, clauses};
-use tcl_cnf::{Cnf, LogLines};
-use tcl_goals::{Cause, Claim, Fact, What, is_algebraic_goal};
-use tcl_kernel::{Cert, Facts, Proof};
+use tcl_cnf::Cnf;
+use tcl_goals::{Cause, Claim, Fact, Lemmas, What, is_algebraic_goal};
+use tcl_kernel::Facts;
 use tcl_lang::Ssa;
 use tcl_port::Port;
-use tcl_sat::{Found, search};
-
-/// The most conflicts between two polls.
-const ROUND: u32 = 1_000;
 
 /// The end of the work on a fact that neither the intervals nor a walk settle. The claim of an algebraic goal is reduced; the
-/// clauses of another are searched, where they are not too many.
+/// clauses of another are searched, where they are not too many: first with all lemmas, and where this gives no proof without
+/// them.
 pub(crate) fn searched<P: Port>(
+    alloc: Global,
+    ssa: &Ssa,
+    earlier: &Facts,
+    lemmas: &Lemmas,
+    fact: &Fact,
+    port: &mut P,
+    budget: u32,
+) -> Result<Worked, AllocError>
+    requires earlier { earlier.now ≡ record { program = ssa.now; lemmas = []; facts = [] } }
+    requires formed { IsWellFormed ssa.now }
+    requires order { InOrder ssa.now [] fact.now }
+    requires budget { 0 < budget }
+    requires unbounded { is_bounded ssa.now fact.now ≡ false }
+    requires unwalked { is_walked_by ssa.now budget fact.now ≡ false }
+    ensures worked { IfOk result (λ worked. IsWorked ssa.now budget lemmas.now.items fact.now worked) }
+    ensures polled { IfOk result (λ worked. P.polls port.new < 2 ^ 64 - 1 → steps_told worked ≤ 1000 * (P.polls port.new - P.polls port.old)) }
+    ensures stopped { IfOk result (λ worked. IsStopped (P.cancels port.old) (P.cancels port.new) worked) }
+{
+    if has_algebraic_claim(ssa, fact) {
+        let worked = reduced(alloc, ssa, earlier, fact, port, budget)?;
+        return Ok(worked);
+    }
+    match by_lemmas(alloc, ssa, lemmas, fact, port, budget)? {
+        LemmaEnd::Proved(proof) => Ok(Worked::Proved(proof)),
+        LemmaEnd::Stopped => Ok(Worked::Stopped),
+        LemmaEnd::Vain => {
+            let worked = by_clauses(alloc, ssa, earlier, fact, port, budget)?;
+            Ok(worked)
+        }
+    }
+}
+
+/// Whether the claim is an algebraic goal.
+fn has_algebraic_claim(ssa: &Ssa, fact: &Fact) -> bool
+    ensures { result ≡ is_algebraic_claim ssa.now.lines fact.now.claim }
+{
+    match &fact.claim {
+        Claim::Goal(goal) => is_algebraic_goal(ssa.lines().as_slice(), *goal),
+        Claim::Lemma(_) => false,
+    }
+}
+
+/// The end of the work on such a fact that claims no algebraic goal, without lemmas.
+fn by_clauses<P: Port>(
     alloc: Global,
     ssa: &Ssa,
     earlier: &Facts,
@@ -42,13 +83,11 @@ pub(crate) fn searched<P: Port>(
     requires budget { 0 < budget }
     requires unbounded { is_bounded ssa.now fact.now ≡ false }
     requires unwalked { is_walked_by ssa.now budget fact.now ≡ false }
+    requires range { is_algebraic_claim ssa.now.lines fact.now.claim ≡ false }
     ensures worked { IfOk result (λ worked. IsWorked ssa.now budget [] fact.now worked) }
     ensures polled { IfOk result (λ worked. P.polls port.new < 2 ^ 64 - 1 → steps_told worked ≤ 1000 * (P.polls port.new - P.polls port.old)) }
     ensures stopped { IfOk result (λ worked. IsStopped (P.cancels port.old) (P.cancels port.new) worked) }
 {
-    if has_algebraic_claim(ssa, fact) {
-        return reduced(alloc, ssa, earlier, fact, port, budget);
-    }
     match clauses(alloc, ssa, fact, earlier.lemmas()) {
         Ok(cnf) => {
             let worked = worked_by_search(alloc, ssa, earlier, fact, &cnf, port, budget)?;
@@ -56,16 +95,6 @@ pub(crate) fn searched<P: Port>(
         }
         Err(BlastEnd::TooMany(count)) => Ok(Worked::Open(Cause::Size(What::Clauses, count))),
         Err(BlastEnd::Memory) => Err(AllocError),
-    }
-}
-
-/// Whether the claim is an algebraic goal.
-fn has_algebraic_claim(ssa: &Ssa, fact: &Fact) -> bool
-    ensures { result ≡ is_algebraic_claim ssa.now.lines fact.now.claim }
-{
-    match &fact.claim {
-        Claim::Goal(goal) => is_algebraic_goal(ssa.lines().as_slice(), *goal),
-        Claim::Lemma(_) => false,
     }
 }
 
@@ -92,35 +121,13 @@ fn worked_by_search<P: Port>(
     ensures polled { IfOk result (λ worked. P.polls port.new < 2 ^ 64 - 1 → steps_told worked ≤ 1000 * (P.polls port.new - P.polls port.old)) }
     ensures stopped { IfOk result (λ worked. IsStopped (P.cancels port.old) (P.cancels port.new) worked) }
 {
-    match search(alloc, cnf, budget, ROUND, port)? {
-        Found::Refutes(log) => {
-            let proof = proved_by_log(alloc, ssa, earlier, fact, log.seal())?;
+    match search_end(alloc, cnf, port, budget)? {
+        SearchEnd::Refutes(lines) => {
+            let proof = proved_by_log(alloc, ssa, earlier, fact, lines)?;
             Ok(Worked::Proved(proof))
         }
-        Found::Model(bits) => Ok(Worked::Model(bits)),
-        Found::Spent(log) => {
-            let _lines = log.seal();
-            Ok(Worked::Open(Cause::Steps(budget)))
-        }
-        Found::Stopped => Ok(Worked::Stopped),
+        SearchEnd::Model(bits) => Ok(Worked::Model(bits)),
+        SearchEnd::Spent => Ok(Worked::Open(Cause::Steps(budget))),
+        SearchEnd::Stopped => Ok(Worked::Stopped),
     }
-}
-
-/// The proof of a fact whose clauses have a log that derives the empty clause.
-fn proved_by_log(
-    alloc: Global,
-    ssa: &Ssa,
-    earlier: &Facts,
-    fact: &Fact,
-    lines: LogLines,
-) -> Result<Proof, AllocError>
-    requires earlier { earlier.now ≡ record { program = ssa.now; lemmas = []; facts = [] } }
-    requires formed { IsWellFormed ssa.now }
-    requires order { InOrder ssa.now [] fact.now }
-    requires range { is_algebraic_claim ssa.now.lines fact.now.claim ≡ false }
-    requires few { length (clauses_of ssa.now [] fact.now) ≤ clause_limit }
-    requires refutes { log_answer (clauses_of ssa.now [] fact.now) lines ≡ Refutes }
-    ensures { IfOk result (λ proof. ProvesFact ssa.now [] fact.now proof) }
-{
-    proof_of(alloc, ssa, earlier, fact, Cert::Log(lines))
 }

@@ -21,7 +21,7 @@ use crate::worked::Worked;
 use std::alloc::{AllocError, Global};
 use tcl_algebra::{claim_equation, claim_modulus, has_wide_modulus};
 use tcl_enum::{Ended, FreeValues, enumerate};
-use tcl_goals::{Fact, free_bits};
+use tcl_goals::{Fact, Lemmas, free_bits};
 use tcl_kernel::{Cert, Facts, Proof};
 use tcl_lang::{Input, Ssa};
 use tcl_port::Port;
@@ -34,6 +34,7 @@ pub(crate) fn worked<P: Port>(
     alloc: Global,
     ssa: &Ssa,
     earlier: &Facts,
+    lemmas: &Lemmas,
     fact: &Fact,
     port: &mut P,
     budget: u32,
@@ -42,13 +43,13 @@ pub(crate) fn worked<P: Port>(
     requires formed { IsWellFormed ssa.now }
     requires order { InOrder ssa.now [] fact.now }
     requires budget { 0 < budget }
-    ensures worked { IfOk result (λ worked. IsWorked ssa.now budget [] fact.now worked) }
+    ensures worked { IfOk result (λ worked. IsWorked ssa.now budget lemmas.now.items fact.now worked) }
     ensures polled { IfOk result (λ worked. P.polls port.new < 2 ^ 64 - 1 → steps_told worked ≤ 1000 * (P.polls port.new - P.polls port.old)) }
     ensures stopped { IfOk result (λ worked. IsStopped (P.cancels port.old) (P.cancels port.new) worked) }
 {
     match shown(alloc, ssa, earlier, fact, Cert::Bounds)? {
         Some(proof) => Ok(Worked::Proved(proof)),
-        None => walk(alloc, ssa, earlier, fact, port, budget),
+        None => walk(alloc, ssa, earlier, lemmas, fact, port, budget),
     }
 }
 
@@ -64,6 +65,7 @@ fn walk<P: Port>(
     alloc: Global,
     ssa: &Ssa,
     earlier: &Facts,
+    lemmas: &Lemmas,
     fact: &Fact,
     port: &mut P,
     budget: u32,
@@ -73,13 +75,13 @@ fn walk<P: Port>(
     requires order { InOrder ssa.now [] fact.now }
     requires budget { 0 < budget }
     requires unbounded { is_bounded ssa.now fact.now ≡ false }
-    ensures worked { IfOk result (λ worked. IsWorked ssa.now budget [] fact.now worked) }
+    ensures worked { IfOk result (λ worked. IsWorked ssa.now budget lemmas.now.items fact.now worked) }
     ensures polled { IfOk result (λ worked. P.polls port.new < 2 ^ 64 - 1 → steps_told worked ≤ 1000 * (P.polls port.new - P.polls port.old)) }
     ensures stopped { IfOk result (λ worked. IsStopped (P.cancels port.old) (P.cancels port.new) worked) }
 {
     let bits = free_bits(alloc, ssa, earlier.lemmas(), fact)?;
     if !are_few(bits.len(), budget) {
-        let worked = searched(alloc, ssa, earlier, fact, port, budget)?;
+        let worked = searched(alloc, ssa, earlier, lemmas, fact, port, budget)?;
         return Ok(worked);
     }
     let ended = enumerate(alloc, ssa, fact, earlier.lemmas());
@@ -93,7 +95,7 @@ fn walk<P: Port>(
             Ok(Worked::Fails(input))
         }
         Ended::Wide => {
-            let worked = searched(alloc, ssa, earlier, fact, port, budget)?;
+            let worked = searched(alloc, ssa, earlier, lemmas, fact, port, budget)?;
             Ok(worked)
         }
         Ended::Memory => Err(AllocError),

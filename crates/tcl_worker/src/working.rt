@@ -9,7 +9,7 @@ ghost use Rattle.tcl_board.specs.Judging.{OutcomeSpeaks};
 ghost use Rattle.tcl_board.specs.Sight.{seen_of};
 ghost use Rattle.tcl_gate.specs.Fits.{FitsPiece};
 ghost use Rattle.tcl_kernel.specs.Causes.{IsTrueCause};
-ghost use Rattle.tcl_worker.specs.Outcomes.{IsComplete, IsOutcome, seen_in, steps_of};
+ghost use Rattle.tcl_worker.specs.Outcomes.{IsComplete, IsOutcome, IsPieceFact, seen_in, steps_of};
 ghost use Rattle.tcl_worker.specs.Worked.{IsWorked, steps_told};
 ghost use Rattle.tcl_worker.specs.declared.worked.Worked.TheVariants.{Stopped};
 
@@ -29,8 +29,10 @@ use tcl_port::Port;
 /// which it ends. There is an answer unless the port cancels.
 ///
 /// First the intervals are tried, then the assignments of at most 20 free bits are walked, as many as the budget allows. The
-/// clauses of a range or exactness claim are searched by at most `budget` derived clauses; an algebraic claim is reduced. The
-/// port is polled before each 1,000 of them, and before a reduction. The only error is that memory has run out.
+/// clauses of a range or exactness claim are searched by at most `budget` derived clauses, with all the lemmas among the
+/// hypotheses where there are some and the clauses are not too many with them, and where this gives no proof without them; an
+/// algebraic claim is reduced. The port is polled before each 1,000 derived clauses, and before a reduction. The only error is
+/// that memory has run out.
 pub fn work<P: Port>(
     alloc: Global,
     ssa: &Ssa,
@@ -46,13 +48,15 @@ pub fn work<P: Port>(
     ensures fits { IfOk result (λ given. IfSome given (λ outcome. FitsPiece ⟦<Proof as Evidence>⟧.causes ssa.now budget piece.now lemmas.now (seen_of ⟦<Proof as Evidence>⟧.shows ⟦<Proof as Evidence>⟧.cited outcome))) }
     ensures none { IfOk result (λ given. given ≡ None → Rose (P.cancels port.old) (P.cancels port.new)) }
     ensures complete { IfOk result (λ given. IfSome given (λ outcome. IsComplete ssa.now budget piece.now (seen_of ⟦<Proof as Evidence>⟧.shows ⟦<Proof as Evidence>⟧.cited outcome))) }
+    // The fact that is shown is that of the piece, or that with all the lemmas among its hypotheses.
+    ensures fact { IfOk result (λ given. IfSome given (λ outcome. IsPieceFact ssa.now piece.now lemmas.now (seen_of ⟦<Proof as Evidence>⟧.shows ⟦<Proof as Evidence>⟧.cited outcome))) }
     // As long as the count of polls does not reach its end, a spent budget has at most 1,000 steps for each poll.
     ensures polled { IfOk result (λ given. IfSome given (λ outcome. P.polls port.new < 2 ^ 64 - 1 → steps_of (seen_of ⟦<Proof as Evidence>⟧.shows ⟦<Proof as Evidence>⟧.cited outcome) ≤ 1000 * (P.polls port.new - P.polls port.old))) }
 {
     let _form = ssa.lines();
     let fact = fact_of(alloc, ssa, piece)?;
     let earlier = nothing_shown(alloc, ssa)?;
-    let worked = worked(alloc, ssa, &earlier, &fact, port, budget)?;
+    let worked = worked(alloc, ssa, &earlier, lemmas, &fact, port, budget)?;
     let outcome = outcome_of(alloc, ssa, &earlier, piece, lemmas, &fact, budget, worked)?;
     Ok(outcome)
 }
@@ -72,7 +76,7 @@ fn outcome_of(
     requires formed { IsWellFormed ssa.now }
     requires piece { IsPiece ssa.now piece.now }
     requires fact { fact.now ≡ piece_fact ssa.now piece.now }
-    requires worked { IsWorked ssa.now budget [] (piece_fact ssa.now piece.now) worked }
+    requires worked { IsWorked ssa.now budget _lemmas.now.items (piece_fact ssa.now piece.now) worked }
     ensures outcome { IfOk result (λ given. IfSome given (λ outcome. IsOutcome ssa.now budget piece.now _lemmas.now outcome)) }
     ensures none { IfOk result (λ given. given ≡ None → worked ≡ Stopped) }
     ensures steps { IfOk result (λ given. IfSome given (λ outcome. steps_of (seen_in outcome) ≤ steps_told worked)) }

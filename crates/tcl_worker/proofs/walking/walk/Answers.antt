@@ -5,6 +5,7 @@ use Rattle.tcl_goals.specs.Order.{InOrder}
 use Rattle.tcl_enum.specs.Enumeration.{ended_of}
 use Rattle.tcl_enum.specs.declared.ended.Ended.TheVariants as ended
 use Rattle.tcl_kernel.specs.Earlier.{Earlier}
+use Rattle.tcl_worker.proofs.Gifts.{proves_by_none}
 use Rattle.tcl_worker.proofs.Walks.{end_wide, told_unwalked, wide_unwalked}
 use Rattle.tcl_worker.proofs.walking.walk.Goals as goal
 
@@ -24,3 +25,7 @@ searched-requires-in-Wide-clause-unwalked g c =
     let none = c.lemmas-2.ensures ∙ ap (λ (e : Earlier). e.lemmas) c.requires.earlier in
     let wide : ended_of p c.lemmas-2.result.now.items c.args.fact.now ≡ ended.Wide = end_wide _ _ c.enumerate-ended.ensures c.in-Wide.is in
     wide_unwalked p c.args.budget c.args.fact.now (sym (ap (λ ls. ended_of p ls c.args.fact.now) none) ∙ wide)
+
+pub returns-in-All-clause-worked : goal.returns-in-All-clause-worked
+returns-in-All-clause-worked g c =
+    proves_by_none c.args.ssa.now c.args.lemmas.now.items c.args.fact.now c.in_ok-proof-in-All.proof c.in_ok-proof-in-All.ensures

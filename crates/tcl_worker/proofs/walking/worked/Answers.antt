@@ -1,5 +1,6 @@
 -- The intervals settle the fact, or they do not.
 use Rattle.tcl_worker.proofs.Checks.{none_bounded, some_proves}
+use Rattle.tcl_worker.proofs.Gifts.{proves_by_none}
 use Rattle.tcl_worker.proofs.walking.worked.Goals as goal
 
 pub walk-requires-clause-unbounded : goal.walk-requires-clause-unbounded
@@ -8,4 +9,5 @@ walk-requires-clause-unbounded g c =
 
 pub returns-in-Some-clause-worked : goal.returns-in-Some-clause-worked
 returns-in-Some-clause-worked g c =
-    some_proves c.args.ssa.now c.args.earlier.now c.args.fact.now _ c.in_ok-proof.field-0 c.in-Some.proof c.requires.earlier c.requires.order c.in_ok-proof.ensures c.in-Some.is
+    proves_by_none c.args.ssa.now c.args.lemmas.now.items c.args.fact.now c.in-Some.proof
+    (some_proves c.args.ssa.now c.args.earlier.now c.args.fact.now _ c.in_ok-proof.field-0 c.in-Some.proof c.requires.earlier c.requires.order c.in_ok-proof.ensures c.in-Some.is)
