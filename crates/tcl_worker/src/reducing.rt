@@ -1,6 +1,7 @@
 //! The work on an algebraic claim that a walk does not settle: it is reduced.
 
 ghost use Rattle.std.specs.Prelude.{◌≡◌, ◌≤◌, ◌<◌, ◌^◌, ◌-◌, ◌*◌, ℕ, true, false, [], IfOk};
+ghost use Rattle.tcl_port.specs.Polling.{Rose};
 ghost use Rattle.tcl_lang.specs.Form.{IsWellFormed};
 ghost use Rattle.tcl_goals.specs.Order.{InOrder};
 ghost use Rattle.tcl_kernel.specs.BoundsCertificate.{is_bounded, is_algebraic_claim};
@@ -38,6 +39,7 @@ pub(crate) fn reduced<P: Port>(
     ensures worked { IfOk result (λ worked. IsWorked ssa.now budget [] fact.now worked) }
     ensures polled { IfOk result (λ worked. P.polls port.new < 2 ^ 64 - 1 → steps_told worked ≤ 1000 * (P.polls port.new - P.polls port.old)) }
     ensures stopped { IfOk result (λ worked. IsStopped (P.cancels port.old) (P.cancels port.new) worked) }
+    ensures asked { Rose (P.polls port.old) (P.polls port.new) }
 {
     match port.poll() {
         Poll::Go => by_reduction(alloc, ssa, earlier, fact, budget),
