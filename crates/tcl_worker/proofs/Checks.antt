@@ -89,7 +89,7 @@ there : (o : Option Lemma) → is_some o ≡ true → (m : Lemma) × (o ≡ Some
 there None e = absurd (cc)
 there (Some m) e = (m, refl)
 
-cites_given : (p : VersionedProgram) (lemmas : List Numbered) (fact : Fact) → InOrder p lemmas fact → CitesGiven lemmas (cited_lemmas fact.hyps lemmas) fact
+pub cites_given : (p : VersionedProgram) (lemmas : List Numbered) (fact : Fact) → InOrder p lemmas fact → CitesGiven lemmas (cited_lemmas fact.hyps lemmas) fact
 cites_given p lemmas fact order n one =
     let m = there (lemma_of lemmas n) (found p.lines lemmas fact.hyps n order.hyps one) in
     record { lemma = m.0; in_given = m.1; in_cited = kept fact.hyps lemmas n one ∙ m.1 }
@@ -158,6 +158,11 @@ pub none_bounded : (p : VersionedProgram) (earlier : Earlier) (fact : Fact) (con
 none_bounded p earlier fact content None begins order taken is =
     sym (bounds_tell p fact order) ∙ sym (ap (λ (x : Earlier). is_none (first_reason p x fact cert.Bounds)) begins) ∙ taken
 none_bounded p earlier fact content (Some proof) begins order taken is = absurd (cc)
+
+pub some_bounded : (p : VersionedProgram) (earlier : Earlier) (fact : Fact) (content : ProofContent) (o : Option ProofContent) (proof : ProofContent) → earlier ≡ beginning p → InOrder p [] fact → IsTaken (first_reason p earlier fact cert.Bounds) content o → o ≡ Some proof → is_bounded p fact ≡ true
+some_bounded p earlier fact content None proof begins order taken is = absurd (cc)
+some_bounded p earlier fact content (Some own) proof begins order taken is =
+    sym (bounds_tell p fact order) ∙ sym (ap (λ (x : Earlier). is_none (first_reason p x fact cert.Bounds)) begins) ∙ taken.0
 
 pub some_proves : (p : VersionedProgram) (earlier : Earlier) (fact : Fact) (reason : Option Reason) (o : Option ProofContent) (proof : ProofContent) → earlier ≡ beginning p → InOrder p [] fact → IsTaken reason (proof_of p earlier.lemmas fact true) o → o ≡ Some proof → ProvesFact p [] fact proof
 some_proves p earlier fact reason None proof begins order taken is = absurd (cc)

@@ -152,6 +152,7 @@ proves_by_none p lemmas fact proof proves = record {
 
 pub worked_by_none : (p : VersionedProgram) (budget : ℕ) (lemmas : List Numbered) (fact : Fact) (w : Worked) → IsWorked p budget [] fact w → IsWorked p budget lemmas fact w
 worked_by_none p budget lemmas fact (worked.Proved proof) h = proves_by_none p lemmas fact proof h
+worked_by_none p budget lemmas fact (worked.Lemma proof) h = h
 worked_by_none p budget lemmas fact (worked.Fails input) h = h
 worked_by_none p budget lemmas fact (worked.Model bits) h = h
 worked_by_none p budget lemmas fact (worked.Open c) h = h

@@ -65,6 +65,11 @@ told_unwalked p budget fact lemmas bits n few none is count told many =
     many_unwalked p budget fact
     (ap (λ bs. are_few (length bs) budget) (sym same) ∙ ap (λ m. are_few m budget) (sym count) ∙ sym told ∙ many)
 
+pub told_few : (p : VersionedProgram) (budget : ℕ) (fact : Fact) (lemmas : List Numbered) (bits : List Bit) (n : ℕ) (few : Bool) → lemmas ≡ [] → bits ≡ free_bits p lemmas fact → n ≡ length bits → few ≡ are_few n budget → few ≡ true → are_few (length (free_bits p [] fact)) budget ≡ true
+told_few p budget fact lemmas bits n few none is count told many =
+    let same : bits ≡ free_bits p [] fact = is ∙ ap (λ ls. free_bits p ls fact) none in
+    ap (λ bs. are_few (length bs) budget) (sym same) ∙ ap (λ m. are_few m budget) (sym count) ∙ sym told ∙ many
+
 ended_wide : (p : VersionedProgram) (fact : Fact) → ended_of p [] fact ≡ ended.Wide → is_narrow_fact p fact ≡ false
 unfolding ended_of
 ended_wide p fact e = at (is_narrow_fact p fact) (first_denial p [] fact) e
@@ -85,7 +90,21 @@ ended_fails p fact free e = at (is_narrow_fact p fact) (first_denial p [] fact) 
     at true o e = refl
     at false o e = absurd (cc)
 
+pub ended_all : (p : VersionedProgram) (fact : Fact) → ended_of p [] fact ≡ ended.All → is_narrow_fact p fact ≡ true
+unfolding ended_of
+ended_all p fact e = at (is_narrow_fact p fact) (first_denial p [] fact) e
+  where
+    at : (b : Bool) (o : Option ℕ) → (if b then ended_by p [] fact o else ended.Wide) ≡ ended.All → b ≡ true
+    at true o e = refl
+    at false o e = absurd (cc)
+
 -- the end that is told, where it is not that memory has run out
+pub end_all : (told e : Ended) → IsEnd told e → e ≡ ended.All → told ≡ ended.All
+end_all told ended.All h same = sym h
+end_all told ended.Wide h same = absurd (cc)
+end_all told (ended.Fails free) h same = absurd (cc)
+end_all told ended.Memory h same = absurd (cc)
+
 pub end_wide : (told e : Ended) → IsEnd told e → e ≡ ended.Wide → told ≡ ended.Wide
 end_wide told ended.Wide h same = sym h
 end_wide told ended.All h same = absurd (cc)

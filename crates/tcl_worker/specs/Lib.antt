@@ -3,7 +3,9 @@ pub mod Searched
 pub mod Settled
 pub mod Inputs
 pub mod Trials
+pub mod Candidates
 pub mod Citing
+pub mod Lemmas
 pub mod Entries
 pub mod Proofs
 pub mod Strays

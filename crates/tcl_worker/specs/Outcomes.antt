@@ -1,5 +1,5 @@
 -- What comes of a piece.
-use Rattle.std.specs.Prelude.{◌≡◌, ℕ, Bool, true, false, ◌&&◌}
+use Rattle.std.specs.Prelude.{◌≡◌, ℕ, Bool, true, false, ◌&&◌, []}
 use Rattle.tcl_lang.specs.Program.{VersionedProgram}
 use Rattle.tcl_goals.specs.declared.cause.Cause.{Cause}
 use Rattle.tcl_goals.specs.declared.cause.Cause.TheVariants as cause
@@ -19,6 +19,7 @@ use Rattle.tcl_kernel.specs.Shown.{ProofContent}
 use Rattle.tcl_kernel.specs.Causes.{is_walked_by, IsTrueCause}
 use Rattle.tcl_kernel.specs.Trials.{trial_count, NoTrialRefutes}
 use Rattle.tcl_worker.specs.Citing.{CitesAllOrNone}
+use Rattle.tcl_worker.specs.Lemmas.{IsMade, MakesNone}
 use Rattle.tcl_worker.specs.Settled.{IsSettledBy}
 use Rattle.tcl_worker.specs.Inputs.{IsFirstInput}
 use Rattle.tcl_worker.specs.Trials.{IsFirstTrial}
@@ -79,6 +80,14 @@ IsPieceFact p q lemmas (seen.Shown (shown.Fact fact) cited) = CitesAllOrNone p.l
 IsPieceFact p q lemmas (seen.Shown (shown.Breaks g input) cited) = Unit {0}
 IsPieceFact p q lemmas (seen.Lemma sh cited) = Unit {0}
 IsPieceFact p q lemmas (seen.Ended c) = Unit {0}
+
+-- A lemma comes by the rules, and cites none: where more are wanted and the clauses of the piece's fact are to be searched,
+-- the first candidate whose search shows it. Else no lemma was to be made.
+abbrev pub ObeysRules : VersionedProgram → ℕ → Piece → LemmaList → Seen → Type 0
+ObeysRules p budget q lemmas (seen.Lemma (shown.Fact fact) cited) = IsMade p budget lemmas (piece_fact p q) fact × (cited ≡ [])
+ObeysRules p budget q lemmas (seen.Lemma (shown.Breaks g input) cited) = ⊥
+ObeysRules p budget q lemmas (seen.Shown sh cited) = MakesNone p budget lemmas (piece_fact p q)
+ObeysRules p budget q lemmas (seen.Ended c) = MakesNone p budget lemmas (piece_fact p q)
 
 -- the outcome of a piece by these lemmas
 pub record IsOutcome (p : VersionedProgram) (budget : ℕ) (q : Piece) (lemmas : LemmaList) (o : Outcome ProofContent) : Type 0 where

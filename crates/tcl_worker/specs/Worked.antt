@@ -10,6 +10,7 @@ use Rattle.tcl_goals.specs.declared.lemma.Numbered.{Numbered}
 use Rattle.tcl_goals.specs.declared.cause.Cause.{Cause}
 use Rattle.tcl_goals.specs.declared.piece.Piece.{Piece}
 use Rattle.tcl_goals.specs.declared.piece.Route.TheVariants as route
+use Rattle.tcl_goals.specs.LemmaList.{LemmaList}
 use Rattle.tcl_goals.specs.Plans.{is_algebraic_goal, piece_fact}
 use Rattle.tcl_enum.specs.declared.ended.FreeValue.{FreeValue}
 use Rattle.tcl_enum.specs.declared.ended.Ended.TheVariants as ended
@@ -22,11 +23,13 @@ use Rattle.tcl_kernel.specs.CauseLaws.{IsModelEnd}
 use Rattle.tcl_kernel.specs.Strays.{first_stray}
 use Rattle.tcl_kernel.specs.Trials.{trial_count, NoTrialRefutes}
 use Rattle.tcl_worker.specs.declared.worked.Worked.{Worked}
-use Rattle.tcl_worker.specs.declared.worked.Worked.TheVariants.{Proved, Fails, Model, Open, Stopped}
+use Rattle.tcl_worker.specs.declared.worked.Worked.TheVariants.{Proved, Lemma, Fails, Model, Open, Stopped}
 use Rattle.tcl_worker.specs.Settled.{IsSettledBy}
 use Rattle.tcl_worker.specs.Inputs.{input_of}
 use Rattle.tcl_worker.specs.Proofs.{ProvesFact}
 use Rattle.tcl_worker.specs.Outcomes.{steps_in}
+use Rattle.tcl_worker.specs.Lemmas.{MakesNone}
+use Rattle.tcl_worker.specs.SearchEnds.{ProvesMade}
 
 -- the walk ends at an assignment that denies the fact, of which this is the input
 pub record IsFailing (p : VersionedProgram) (budget : ℕ) (fact : Fact) (input : List ℤ) : Type 0 where
@@ -68,13 +71,28 @@ pub record IsEnded (p : VersionedProgram) (budget : ℕ) (fact : Fact) (c : Caus
   pub not_broken : is_broken_goal p c ≡ false
   pub unsettled : IsSettledBy p fact → ⊥
 
--- what an end of the work by these lemmas says of the fact
+-- what an end of the work by these lemmas says of the fact; of a lemma that is made the rules speak
 abbrev pub IsWorked : VersionedProgram → ℕ → List Numbered → Fact → Worked → Type 0
 IsWorked p budget lemmas fact (Proved proof) = ProvesFact p lemmas fact proof
+IsWorked p budget lemmas fact (Lemma proof) = Unit {0}
 IsWorked p budget lemmas fact (Fails input) = IsFailing p budget fact input
 IsWorked p budget lemmas fact (Model bits) = IsModelled p budget fact bits
 IsWorked p budget lemmas fact (Open c) = IsEnded p budget fact c
 IsWorked p budget lemmas fact Stopped = Unit {0}
+
+-- an end says by which rules a lemma comes, or why none does
+abbrev pub KeepsRules : VersionedProgram → ℕ → LemmaList → Fact → Worked → Type 0
+KeepsRules p budget lemmas fact (Lemma proof) = ProvesMade p budget lemmas fact proof
+KeepsRules p budget lemmas fact (Proved proof) = MakesNone p budget lemmas fact
+KeepsRules p budget lemmas fact (Fails input) = MakesNone p budget lemmas fact
+KeepsRules p budget lemmas fact (Model bits) = MakesNone p budget lemmas fact
+KeepsRules p budget lemmas fact (Open c) = MakesNone p budget lemmas fact
+KeepsRules p budget lemmas fact Stopped = Unit {0}
+
+-- the end is no lemma
+abbrev pub is_lemma : Worked → Bool
+is_lemma (Lemma proof) = true
+is_lemma _ = false
 
 -- the steps that an end tells of
 abbrev pub steps_told : Worked → ℕ
@@ -84,6 +102,7 @@ steps_told _ = 0
 -- the counts of cancellations before and after: one came exactly where the work was stopped
 abbrev pub IsStopped : ℕ → ℕ → Worked → Type 0
 IsStopped cancels cancels' (Proved proof) = cancels' ≡ cancels
+IsStopped cancels cancels' (Lemma proof) = cancels' ≡ cancels
 IsStopped cancels cancels' (Fails input) = cancels' ≡ cancels
 IsStopped cancels cancels' (Model bits) = cancels' ≡ cancels
 IsStopped cancels cancels' (Open c) = cancels' ≡ cancels

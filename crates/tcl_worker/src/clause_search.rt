@@ -23,6 +23,7 @@ pub(crate) fn search_end<P: Port>(
 ) -> Result<SearchEnd, AllocError>
     requires budget { 0 < budget }
     ensures end { IfOk result (λ end. IsSearchEnd cnf.now budget end) }
+    ensures few { IfOk result (λ end. steps_made budget end ≤ budget) }
     ensures polled { IfOk result (λ end. P.polls port.new < 2 ^ 64 - 1 → steps_made budget end ≤ 1000 * (P.polls port.new - P.polls port.old)) }
     ensures stopped { IfOk result (λ end. WasStopped (P.cancels port.old) (P.cancels port.new) end) }
     ensures asked { OnOk result (Rose (P.polls port.old) (P.polls port.new)) }

@@ -2,12 +2,14 @@
 //! cause with which it ends.
 #![tactic(auto)]
 
+mod candidates;
 mod checking;
 mod citing;
 mod clause_search;
 mod entry;
 mod facts;
 mod inputs;
+mod lemma_making;
 mod lemma_search;
 mod logs;
 mod models;

@@ -8,7 +8,7 @@ ghost use Rattle.tcl_kernel.specs.BoundsCertificate.{is_bounded, is_algebraic_cl
 ghost use Rattle.tcl_kernel.specs.Causes.{is_walked_by};
 ghost use Rattle.tcl_kernel.specs.CofactorCertificate.{CofactorCheck};
 ghost use Rattle.tcl_worker.specs.Proofs.{ProvesFact};
-ghost use Rattle.tcl_worker.specs.Worked.{IsWorked, IsStopped, steps_told};
+ghost use Rattle.tcl_worker.specs.Worked.{IsWorked, IsStopped, is_lemma, steps_told};
 
 use crate::checking::proof_of;
 use crate::worked::Worked;
@@ -37,6 +37,7 @@ pub(crate) fn reduced<P: Port>(
     requires unwalked { is_walked_by ssa.now budget fact.now ≡ false }
     requires algebraic { is_algebraic_claim ssa.now.lines fact.now.claim ≡ true }
     ensures worked { IfOk result (λ worked. IsWorked ssa.now budget [] fact.now worked) }
+    ensures own { IfOk result (λ worked. is_lemma worked ≡ false) }
     ensures polled { IfOk result (λ worked. P.polls port.new < 2 ^ 64 - 1 → steps_told worked ≤ 1000 * (P.polls port.new - P.polls port.old)) }
     ensures stopped { IfOk result (λ worked. IsStopped (P.cancels port.old) (P.cancels port.new) worked) }
     ensures asked { Rose (P.polls port.old) (P.polls port.new) }
@@ -62,6 +63,7 @@ fn by_reduction(
     requires unwalked { is_walked_by ssa.now _budget fact.now ≡ false }
     requires algebraic { is_algebraic_claim ssa.now.lines fact.now.claim ≡ true }
     ensures worked { IfOk result (λ worked. IsWorked ssa.now _budget [] fact.now worked) }
+    ensures own { IfOk result (λ worked. is_lemma worked ≡ false) }
     ensures steps { IfOk result (λ worked. steps_told worked ≡ 0) }
     ensures stopped { IfOk result (λ worked. (n : ℕ) → IsStopped n n worked) }
 {

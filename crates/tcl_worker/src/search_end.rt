@@ -16,10 +16,10 @@ pub(crate) enum SearchEnd {
     Stopped,
 }
 
-/// The end of a search for a proof that cites lemmas.
+/// The end of a search for a proof that cites lemmas, or for one of a lemma.
 #[derive(Drop)]
 pub(crate) enum LemmaEnd {
-    /// The kernel's proof, which cites all of them.
+    /// The kernel's proof.
     Proved(Proof),
     /// There is none by such a search.
     Vain,

@@ -12,7 +12,7 @@ ghost use Rattle.tcl_enum.specs.Enumeration.{ended_of};
 ghost use Rattle.tcl_enum.specs.declared.ended.Ended.TheVariants as ended;
 ghost use Rattle.tcl_kernel.specs.BoundsCertificate.{is_bounded};
 ghost use Rattle.tcl_worker.specs.Proofs.{ProvesFact};
-ghost use Rattle.tcl_worker.specs.Worked.{IsFailing, IsWorked, IsStopped, steps_told};
+ghost use Rattle.tcl_worker.specs.Worked.{IsFailing, IsWorked, IsStopped, KeepsRules, steps_told};
 
 use crate::checking::{proof_of, shown};
 use crate::inputs::input_of;
@@ -44,6 +44,7 @@ pub(crate) fn worked<P: Port>(
     requires order { InOrder ssa.now [] fact.now }
     requires budget { 0 < budget }
     ensures worked { IfOk result (λ worked. IsWorked ssa.now budget lemmas.now.items fact.now worked) }
+    ensures rules { IfOk result (λ worked. KeepsRules ssa.now budget lemmas.now fact.now worked) }
     ensures polled { IfOk result (λ worked. P.polls port.new < 2 ^ 64 - 1 → steps_told worked ≤ 1000 * (P.polls port.new - P.polls port.old)) }
     ensures stopped { IfOk result (λ worked. IsStopped (P.cancels port.old) (P.cancels port.new) worked) }
 {
@@ -76,6 +77,7 @@ fn walk<P: Port>(
     requires budget { 0 < budget }
     requires unbounded { is_bounded ssa.now fact.now ≡ false }
     ensures worked { IfOk result (λ worked. IsWorked ssa.now budget lemmas.now.items fact.now worked) }
+    ensures rules { IfOk result (λ worked. KeepsRules ssa.now budget lemmas.now fact.now worked) }
     ensures polled { IfOk result (λ worked. P.polls port.new < 2 ^ 64 - 1 → steps_told worked ≤ 1000 * (P.polls port.new - P.polls port.old)) }
     ensures stopped { IfOk result (λ worked. IsStopped (P.cancels port.old) (P.cancels port.new) worked) }
 {

@@ -10,6 +10,8 @@ use tcl_lang::Input;
 pub(crate) enum Worked {
     /// The kernel's proof of the fact.
     Proved(Proof),
+    /// The kernel's proof of a lemma; the fact is to be worked on again.
+    Lemma(Proof),
     /// The walk ends at an assignment that denies the fact; this input gives the lines its values, and 0 to all others.
     Fails(Input),
     /// These bits meet the clauses of the fact.

@@ -9,8 +9,8 @@ ghost use Rattle.tcl_board.specs.Judging.{OutcomeSpeaks};
 ghost use Rattle.tcl_board.specs.Sight.{seen_of};
 ghost use Rattle.tcl_gate.specs.Fits.{FitsPiece};
 ghost use Rattle.tcl_kernel.specs.Causes.{IsTrueCause};
-ghost use Rattle.tcl_worker.specs.Outcomes.{IsComplete, IsOutcome, IsPieceFact, seen_in, steps_of};
-ghost use Rattle.tcl_worker.specs.Worked.{IsWorked, steps_told};
+ghost use Rattle.tcl_worker.specs.Outcomes.{IsComplete, IsOutcome, IsPieceFact, ObeysRules, seen_in, steps_of};
+ghost use Rattle.tcl_worker.specs.Worked.{IsWorked, KeepsRules, steps_told};
 ghost use Rattle.tcl_worker.specs.declared.worked.Worked.TheVariants.{Stopped};
 
 use crate::facts::{fact_of, nothing_shown};
@@ -25,13 +25,15 @@ use tcl_kernel::{Facts, Proof};
 use tcl_lang::Ssa;
 use tcl_port::Port;
 
-/// What comes of a piece by these lemmas: the kernel's proof of its fact, or of an input that breaks a goal, or the cause with
-/// which it ends. There is an answer unless the port cancels.
+/// What comes of a piece by these lemmas: the kernel's proof of its fact, of a lemma, or of an input that breaks a goal, or the
+/// cause with which it ends. There is an answer unless the port cancels.
 ///
-/// First the intervals are tried, then the assignments of at most 20 free bits are walked, as many as the budget allows. The
-/// clauses of a range or exactness claim are searched by at most `budget` derived clauses, with all the lemmas among the
-/// hypotheses where there are some and the clauses are not too many with them, and where this gives no proof without them; an
-/// algebraic claim is reduced. The port is polled before each 1,000 derived clauses, and before a reduction. The only error is
+/// First the intervals are tried, then the assignments of at most 20 free bits are walked, as many as the budget allows. An
+/// algebraic claim is reduced. The clauses of a range or exactness claim are searched, where they are not too many. Where more
+/// lemmas are wanted, the highest bits of the claim's variables are tried before that, each with the value 0 and then 1, by at
+/// most `budget` and at most 256 derived clauses: the first that is shown, and is no lemma yet, is the answer. Else the clauses
+/// are searched by at most `budget` derived clauses, with all the lemmas among the hypotheses where there are some and the
+/// clauses are not too many with them, and where this gives no proof without them. The port is polled before each 1,000 derived clauses, and before a reduction. The only error is
 /// that memory has run out.
 pub fn work<P: Port>(
     alloc: Global,
@@ -50,6 +52,8 @@ pub fn work<P: Port>(
     ensures complete { IfOk result (λ given. IfSome given (λ outcome. IsComplete ssa.now budget piece.now (seen_of ⟦<Proof as Evidence>⟧.shows ⟦<Proof as Evidence>⟧.cited outcome))) }
     // The fact that is shown is that of the piece, or that with all the lemmas among its hypotheses.
     ensures fact { IfOk result (λ given. IfSome given (λ outcome. IsPieceFact ssa.now piece.now lemmas.now (seen_of ⟦<Proof as Evidence>⟧.shows ⟦<Proof as Evidence>⟧.cited outcome))) }
+    // A lemma comes by the rules, and no other outcome comes where one is to be made.
+    ensures rules { IfOk result (λ given. IfSome given (λ outcome. ObeysRules ssa.now budget piece.now lemmas.now (seen_of ⟦<Proof as Evidence>⟧.shows ⟦<Proof as Evidence>⟧.cited outcome))) }
     // As long as the count of polls does not reach its end, a spent budget has at most 1,000 steps for each poll.
     ensures polled { IfOk result (λ given. IfSome given (λ outcome. P.polls port.new < 2 ^ 64 - 1 → steps_of (seen_of ⟦<Proof as Evidence>⟧.shows ⟦<Proof as Evidence>⟧.cited outcome) ≤ 1000 * (P.polls port.new - P.polls port.old))) }
 {
@@ -77,12 +81,15 @@ fn outcome_of(
     requires piece { IsPiece ssa.now piece.now }
     requires fact { fact.now ≡ piece_fact ssa.now piece.now }
     requires worked { IsWorked ssa.now budget _lemmas.now.items (piece_fact ssa.now piece.now) worked }
+    requires rules { KeepsRules ssa.now budget _lemmas.now (piece_fact ssa.now piece.now) worked }
     ensures outcome { IfOk result (λ given. IfSome given (λ outcome. IsOutcome ssa.now budget piece.now _lemmas.now outcome)) }
+    ensures rules { IfOk result (λ given. IfSome given (λ outcome. ObeysRules ssa.now budget piece.now _lemmas.now (seen_in outcome))) }
     ensures none { IfOk result (λ given. given ≡ None → worked ≡ Stopped) }
     ensures steps { IfOk result (λ given. IfSome given (λ outcome. steps_of (seen_in outcome) ≤ steps_told worked)) }
 {
     match worked {
         Worked::Proved(proof) => Ok(Some(Outcome::Shown(proof))),
+        Worked::Lemma(proof) => Ok(Some(Outcome::Lemma(proof))),
         Worked::Fails(input) => {
             let outcome = failed(alloc, ssa, piece, budget, input)?;
             Ok(Some(outcome))

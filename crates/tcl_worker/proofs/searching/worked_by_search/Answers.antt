@@ -14,11 +14,11 @@ returns-in_ok-proof-in-Refutes-clause-worked g c =
 
 pub returns-in-Model-clause-worked : goal.returns-in-Model-clause-worked
 returns-in-Model-clause-worked g c =
-    model_left c.args.ssa.now c.args.budget c.args.fact.now c.in-Model.bits c.requires.unbounded c.requires.unwalked c.requires.range
+    model_left c.args.ssa.now c.args.budget c.args.fact.now c.in-Model.bits c.requires.searched.unbounded c.requires.searched.unwalked c.requires.searched.range
     (subst (Satisfies (value_at c.in-Model.bits)) c.requires.clauses (subst (IsSearchEnd c.args.cnf.now c.args.budget) c.in-Model.is c.in_ok-lines.ensures.end))
 
 pub returns-in-Spent-clause-worked : goal.returns-in-Spent-clause-worked
 returns-in-Spent-clause-worked g c =
     let spent = subst (IsSearchEnd c.args.cnf.now c.args.budget) c.in-Spent.is c.in_ok-lines.ensures.end in
-    spent_ended c.args.ssa.now c.args.budget c.args.fact.now spent.lines c.requires.budget c.requires.unbounded c.requires.unwalked c.requires.range
+    spent_ended c.args.ssa.now c.args.budget c.args.fact.now spent.lines c.requires.budget c.requires.searched.unbounded c.requires.searched.unwalked c.requires.searched.range
     (subst (λ (cs : List (List ℕ)). DeriveFresh cs c.args.budget spent.lines) c.requires.clauses spent.derives)
