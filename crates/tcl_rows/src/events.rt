@@ -41,6 +41,31 @@ fn steps_of_the_board(rt: HostRuntime) -> Result<(), AllocError> {
                 Event::Submit(0, 1, Word::Broken(0)),
             ],
         ),
+        // The cut piece makes the lemma that bit 31 of x is 0, which is admitted, and then proves the goal.
+        (
+            "in u32 x\npre rng x & 4294967295@u32 <= 3@u32\nassert rng x <= 3@u32\nend\n",
+            &[
+                Event::Claim(0, 0),
+                Event::Submit(0, 0, Word::Lemma),
+                Event::Admit(Admitted::Lemma(0)),
+                Event::Submit(0, 0, Word::Proved),
+                Event::Admit(Admitted::Goal(0)),
+            ],
+        ),
+        // The second goal is given the lemma of the first, and makes no other.
+        (
+            "in u32 x\npre rng x & 4294967295@u32 <= 3@u32\nassert rng x <= 3@u32\nassert rng x & 3@u32 = x\nend\n",
+            &[
+                Event::Claim(0, 0),
+                Event::Submit(0, 0, Word::Lemma),
+                Event::Admit(Admitted::Lemma(0)),
+                Event::Submit(0, 0, Word::Proved),
+                Event::Admit(Admitted::Goal(0)),
+                Event::Claim(0, 2),
+                Event::Submit(0, 2, Word::Proved),
+                Event::Admit(Admitted::Goal(1)),
+            ],
+        ),
         // A text without goals, and one outside the grammar.
         ("in u8 x\nend\n", &[]),
         ("in u8\nend\n", &[]),
