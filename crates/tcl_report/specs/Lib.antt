@@ -6,3 +6,4 @@ pub mod Brackets
 pub mod Events
 pub mod Report
 pub mod ReportSays
+pub mod Growing

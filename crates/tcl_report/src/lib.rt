@@ -5,6 +5,7 @@ mod causes;
 mod inputs;
 mod laws;
 mod line;
+mod printer;
 mod program;
 mod range;
 mod report;

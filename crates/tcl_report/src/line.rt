@@ -1,15 +1,15 @@
 //! Lines.
 
-ghost use Rattle.std.specs.Prelude.{◌≡◌, ◌++◌, OnOk, codes};
+ghost use Rattle.std.specs.Prelude.{◌≡◌, ◌++◌, codes};
 ghost use Rattle.tcl_text.specs.Canonical as canonical;
 ghost use Rattle.tcl_report.specs.Parts as part_words;
+ghost use Rattle.tcl_report.specs.Growing.{Grows};
 ghost use Rattle.tcl_text.specs.Words as words;
 ghost use Rattle.tcl_lang.specs.Shape as shape;
 
-use crate::range::add_range_pred;
-use crate::term::{add_modulus, add_term};
-use crate::text::{Text, add, add_atom, add_name, add_number, add_type};
-use std::alloc::{AllocError, Global};
+use crate::printer::{Printer, print, print_atom, print_name, print_number, print_type};
+use crate::range::print_range_pred;
+use crate::term::{print_modulus, print_term};
 use tcl_lang::{AlgPred, Atom, Instr, Line, Names, Op, Pred, RngPred, Ty};
 
 /// The word of an instruction.
@@ -54,193 +54,138 @@ fn has_amount(op: Op) -> bool
     }
 }
 
-/// Adds an algebraic predicate.
-#[tactic(auto, using(crate::proofs::TextLemmas::joined))]
-fn add_equation(
-    alloc: Global,
-    text: &mut Text,
-    names: &Names,
-    pred: &AlgPred,
-) -> Result<(), AllocError>
-    ensures ok { OnOk result (text.new.items ≡ text.old.items ++ part_words.equation_text names.now pred.now) }
+/// Prints an algebraic predicate.
+#[tactic(auto, using(crate::proofs::Growing::further))]
+fn print_equation(printer: &mut Printer, names: &Names, pred: &AlgPred)
+    ensures { Grows printer.old (part_words.equation_text names.now pred.now) printer.new }
 {
-    add_term(&pred.left, alloc, names, 4, text)?;
-    add(text, b" = ")?;
-    add_term(&pred.right, alloc, names, 4, text)?;
-    add_modulus(alloc, text, &pred.modulus)
+    print_term(&pred.left, names, 4, printer);
+    print(printer, b" = ");
+    print_term(&pred.right, names, 4, printer);
+    print_modulus(printer, &pred.modulus);
 }
 
-/// Adds a range predicate behind its word.
-#[tactic(auto, using(crate::proofs::TextLemmas::joined))]
-fn add_ranges(
-    alloc: Global,
-    text: &mut Text,
-    names: &Names,
-    pred: &RngPred,
-) -> Result<(), AllocError>
-    ensures ok { OnOk result (text.new.items ≡ text.old.items ++ (codes "rng " ++ canonical.range_pred_text names.now pred.now)) }
+/// Prints a range predicate behind its word.
+#[tactic(auto, using(crate::proofs::Growing::further))]
+fn print_ranges(printer: &mut Printer, names: &Names, pred: &RngPred)
+    ensures { Grows printer.old (codes "rng " ++ canonical.range_pred_text names.now pred.now) printer.new }
 {
-    add(text, b"rng ")?;
-    add_range_pred(pred, alloc, names, 3, text)
+    print(printer, b"rng ");
+    print_range_pred(pred, names, 3, printer);
 }
 
-/// Adds an algebraic predicate behind its word.
-#[tactic(auto, using(crate::proofs::TextLemmas::joined))]
-fn add_algebra(
-    alloc: Global,
-    text: &mut Text,
-    names: &Names,
-    pred: &AlgPred,
-) -> Result<(), AllocError>
-    ensures ok { OnOk result (text.new.items ≡ text.old.items ++ (codes "alg " ++ part_words.equation_text names.now pred.now)) }
+/// Prints an algebraic predicate behind its word.
+#[tactic(auto, using(crate::proofs::Growing::further))]
+fn print_algebra(printer: &mut Printer, names: &Names, pred: &AlgPred)
+    ensures { Grows printer.old (codes "alg " ++ part_words.equation_text names.now pred.now) printer.new }
 {
-    add(text, b"alg ")?;
-    add_equation(alloc, text, names, pred)
+    print(printer, b"alg ");
+    print_equation(printer, names, pred);
 }
 
-/// Adds a predicate.
-fn add_predicate(
-    alloc: Global,
-    text: &mut Text,
-    names: &Names,
-    pred: &Pred,
-) -> Result<(), AllocError>
-    ensures ok { OnOk result (text.new.items ≡ text.old.items ++ canonical.predicate_text names.now pred.now) }
+/// Prints a predicate.
+fn print_predicate(printer: &mut Printer, names: &Names, pred: &Pred)
+    ensures { Grows printer.old (canonical.predicate_text names.now pred.now) printer.new }
 {
     match pred {
-        Pred::Rng(pred) => add_ranges(alloc, text, names, pred),
-        Pred::Alg(pred) => add_algebra(alloc, text, names, pred),
+        Pred::Rng(pred) => print_ranges(printer, names, pred),
+        Pred::Alg(pred) => print_algebra(printer, names, pred),
     }
 }
 
-/// Adds a name behind a space.
-#[tactic(auto, using(crate::proofs::TextLemmas::joined))]
-fn add_spaced_name(text: &mut Text, names: &Names, name: u32) -> Result<(), AllocError>
-    ensures ok { OnOk result (text.new.items ≡ text.old.items ++ part_words.spaced_name names.now name) }
+/// Prints a name behind a space.
+#[tactic(auto, using(crate::proofs::Growing::further))]
+fn print_spaced_name(printer: &mut Printer, names: &Names, name: u32)
+    ensures { Grows printer.old (part_words.spaced_name names.now name) printer.new }
 {
-    add(text, b" ")?;
-    add_name(text, names, name)
+    print(printer, b" ");
+    print_name(printer, names, name);
 }
 
-/// Adds names, each behind a space.
-#[tactic(auto, using(crate::proofs::TextLemmas::names_more, crate::proofs::TextLemmas::names_done))]
-fn add_names(text: &mut Text, names: &Names, outs: &[u32]) -> Result<(), AllocError>
-    ensures ok { OnOk result (text.new.items ≡ text.old.items ++ part_words.names_text names.now outs.now) }
+/// Prints names, each behind a space.
+#[tactic(auto, using(crate::proofs::Growing::none, crate::proofs::Growing::more, crate::proofs::Growing::all))]
+fn print_names(printer: &mut Printer, names: &Names, outs: &[u32])
+    ensures { Grows printer.old (part_words.names_text names.now outs.now) printer.new }
 {
     for name in outs {
-        add_spaced_name(text, names, *name)?;
+        print_spaced_name(printer, names, *name);
     }
-    Ok(())
 }
 
-/// Adds an operand behind a space.
-#[tactic(auto, using(crate::proofs::TextLemmas::joined))]
-fn add_spaced_atom(
-    alloc: Global,
-    text: &mut Text,
-    names: &Names,
-    atom: &Atom,
-) -> Result<(), AllocError>
-    ensures ok { OnOk result (text.new.items ≡ text.old.items ++ part_words.spaced_atom names.now atom.now) }
+/// Prints an operand behind a space.
+#[tactic(auto, using(crate::proofs::Growing::further))]
+fn print_spaced_atom(printer: &mut Printer, names: &Names, atom: &Atom)
+    ensures { Grows printer.old (part_words.spaced_atom names.now atom.now) printer.new }
 {
-    add(text, b" ")?;
-    add_atom(alloc, text, names, atom)
+    print(printer, b" ");
+    print_atom(printer, names, atom);
 }
 
-/// Adds operands, each behind a space.
-#[tactic(auto, using(crate::proofs::TextLemmas::atoms_more, crate::proofs::TextLemmas::atoms_done))]
-fn add_atoms(
-    alloc: Global,
-    text: &mut Text,
-    names: &Names,
-    atoms: &[Atom],
-) -> Result<(), AllocError>
-    ensures ok { OnOk result (text.new.items ≡ text.old.items ++ part_words.atoms_text names.now atoms.now) }
+/// Prints operands, each behind a space.
+#[tactic(auto, using(crate::proofs::Growing::none, crate::proofs::Growing::more, crate::proofs::Growing::all))]
+fn print_atoms(printer: &mut Printer, names: &Names, atoms: &[Atom])
+    ensures { Grows printer.old (part_words.atoms_text names.now atoms.now) printer.new }
 {
     for atom in atoms {
-        add_spaced_atom(alloc, text, names, atom)?;
+        print_spaced_atom(printer, names, atom);
     }
-    Ok(())
 }
 
-/// Adds the amount of an instruction that has one.
-#[tactic(auto, using(crate::proofs::TextLemmas::joined))]
-fn add_amount(alloc: Global, text: &mut Text, has: bool, n: u32) -> Result<(), AllocError>
-    ensures ok { OnOk result (text.new.items ≡ text.old.items ++ canonical.amount_text has n) }
+/// Prints the amount of an instruction that has one.
+#[tactic(auto, using(crate::proofs::Growing::further, crate::proofs::Growing::unchanged))]
+fn print_amount(printer: &mut Printer, has: bool, n: u32)
+    ensures { Grows printer.old (canonical.amount_text has n) printer.new }
 {
-    if !has {
-        return Ok(());
+    if has {
+        print(printer, b" ");
+        print_number(printer, n as u64);
     }
-    add(text, b" ")?;
-    add_number(alloc, text, n as u64)
 }
 
-/// Adds an instruction.
-#[tactic(auto, using(crate::proofs::TextLemmas::joined))]
-fn add_instruction(
-    alloc: Global,
-    text: &mut Text,
-    names: &Names,
-    instr: &Instr,
-) -> Result<(), AllocError>
-    ensures ok { OnOk result (text.new.items ≡ text.old.items ++ canonical.instruction_text names.now instr.now) }
+/// Prints an instruction.
+#[tactic(auto, using(crate::proofs::Growing::further))]
+fn print_instruction(printer: &mut Printer, names: &Names, instr: &Instr)
+    ensures { Grows printer.old (canonical.instruction_text names.now instr.now) printer.new }
 {
-    add(text, word_of_op(instr.op).as_bytes())?;
-    add(text, b" ")?;
-    add_type(alloc, text, instr.ty)?;
-    add_names(text, names, instr.outs.as_slice())?;
-    add_atoms(alloc, text, names, instr.args.as_slice())?;
-    add_amount(alloc, text, has_amount(instr.op), instr.amount)
+    print(printer, word_of_op(instr.op).as_bytes());
+    print(printer, b" ");
+    print_type(printer, instr.ty);
+    print_names(printer, names, instr.outs.as_slice());
+    print_atoms(printer, names, instr.args.as_slice());
+    print_amount(printer, has_amount(instr.op), instr.amount);
 }
 
-/// Adds the line of a name that is given.
-#[tactic(auto, using(crate::proofs::TextLemmas::joined))]
-fn add_given(
-    alloc: Global,
-    text: &mut Text,
-    names: &Names,
-    ty: Ty,
-    name: u32,
-) -> Result<(), AllocError>
-    ensures ok { OnOk result (text.new.items ≡ text.old.items ++ (codes "in " ++ (canonical.type_text ty ++ (codes " " ++ canonical.name_text names.now name)))) }
+/// Prints the line of a name that is given.
+#[tactic(auto, using(crate::proofs::Growing::further))]
+fn print_given(printer: &mut Printer, names: &Names, ty: Ty, name: u32)
+    ensures { Grows printer.old (codes "in " ++ (canonical.type_text ty ++ (codes " " ++ canonical.name_text names.now name))) printer.new }
 {
-    add(text, b"in ")?;
-    add_type(alloc, text, ty)?;
-    add(text, b" ")?;
-    add_name(text, names, name)
+    print(printer, b"in ");
+    print_type(printer, ty);
+    print(printer, b" ");
+    print_name(printer, names, name);
 }
 
-/// Adds a line of this word and a predicate.
-#[tactic(auto, using(crate::proofs::TextLemmas::joined))]
-fn add_stated(
-    alloc: Global,
-    text: &mut Text,
-    names: &Names,
-    word: &[u8],
-    pred: &Pred,
-) -> Result<(), AllocError>
-    ensures ok { OnOk result (text.new.items ≡ text.old.items ++ (word.now ++ canonical.predicate_text names.now pred.now)) }
+/// Prints a line of this word and a predicate.
+#[tactic(auto, using(crate::proofs::Growing::further))]
+fn print_stated(printer: &mut Printer, names: &Names, word: &[u8], pred: &Pred)
+    ensures { Grows printer.old (word.now ++ canonical.predicate_text names.now pred.now) printer.new }
 {
-    add(text, word)?;
-    add_predicate(alloc, text, names, pred)
+    print(printer, word);
+    print_predicate(printer, names, pred);
 }
 
-/// Adds a line without its end.
-pub(crate) fn add_line(
-    alloc: Global,
-    text: &mut Text,
-    names: &Names,
-    line: &Line,
-) -> Result<(), AllocError>
-    ensures ok { OnOk result (text.new.items ≡ text.old.items ++ canonical.line_text names.now line.now) }
+/// Prints a line without its end.
+pub(crate) fn print_line(printer: &mut Printer, names: &Names, line: &Line)
+    ensures { Grows printer.old (canonical.line_text names.now line.now) printer.new }
 {
     match line {
-        Line::Input(ty, name) => add_given(alloc, text, names, *ty, *name),
-        Line::Step(instr) => add_instruction(alloc, text, names, instr),
-        Line::Pre(pred) => add_stated(alloc, text, names, b"pre ", pred),
-        Line::Assert(pred) => add_stated(alloc, text, names, b"assert ", pred),
-        Line::Assume(pred) => add_stated(alloc, text, names, b"assume ", pred),
-        Line::Cut(pred) => add_stated(alloc, text, names, b"cut ", pred),
-        Line::Post(pred) => add_stated(alloc, text, names, b"post ", pred),
+        Line::Input(ty, name) => print_given(printer, names, *ty, *name),
+        Line::Step(instr) => print_instruction(printer, names, instr),
+        Line::Pre(pred) => print_stated(printer, names, b"pre ", pred),
+        Line::Assert(pred) => print_stated(printer, names, b"assert ", pred),
+        Line::Assume(pred) => print_stated(printer, names, b"assume ", pred),
+        Line::Cut(pred) => print_stated(printer, names, b"cut ", pred),
+        Line::Post(pred) => print_stated(printer, names, b"post ", pred),
     }
 }

@@ -1,49 +1,52 @@
 //! The canonical text of a program.
 
-ghost use Rattle.std.specs.Prelude.{◌≡◌, IfOk, OnOk, ◌++◌};
+ghost use Rattle.std.specs.Prelude.{◌≡◌, IfOk};
 ghost use Rattle.tcl_text.specs.Canonical as canonical;
 ghost use Rattle.tcl_report.specs.Parts as part_words;
+ghost use Rattle.tcl_report.specs.Growing.{Grows};
 ghost use Rattle.tcl_report.specs.Readable.{IsReadable, ReadsAs};
 
-use crate::line::add_line;
-use crate::text::{Text, add};
+use crate::line::print_line;
+use crate::printer::{Printer, begin, finish, print};
+use crate::text::Text;
 use std::alloc::{AllocError, Global};
 use tcl_lang::{Line, Lines, Names, Program};
 
-/// Adds a line with its end.
-#[tactic(auto, using(crate::proofs::TextLemmas::joined))]
-fn add_ended_line(
-    alloc: Global,
-    text: &mut Text,
-    names: &Names,
-    line: &Line,
-) -> Result<(), AllocError>
-    ensures ok { OnOk result (text.new.items ≡ text.old.items ++ part_words.ended_line names.now line.now) }
+/// Prints a line with its end.
+#[tactic(auto, using(crate::proofs::Growing::further))]
+fn print_ended_line(printer: &mut Printer, names: &Names, line: &Line)
+    ensures { Grows printer.old (part_words.ended_line names.now line.now) printer.new }
 {
-    add_line(alloc, text, names, line)?;
-    add(text, b"\n")
+    print_line(printer, names, line);
+    print(printer, b"\n");
 }
 
-/// Adds the lines, each with its end.
-#[tactic(auto, using(crate::proofs::TextLemmas::lines_more, crate::proofs::TextLemmas::lines_done))]
-fn add_lines(alloc: Global, text: &mut Text, names: &Names, lines: &Lines) -> Result<(), AllocError>
-    ensures ok { OnOk result (text.new.items ≡ text.old.items ++ part_words.lines_text names.now lines.now) }
+/// Prints the lines, each with its end.
+#[tactic(auto, using(crate::proofs::Growing::none, crate::proofs::Growing::more, crate::proofs::Growing::all))]
+fn print_lines(printer: &mut Printer, names: &Names, lines: &Lines)
+    ensures { Grows printer.old (part_words.lines_text names.now lines.now) printer.new }
 {
     for line in lines.as_slice() {
-        add_ended_line(alloc, text, names, line)?;
+        print_ended_line(printer, names, line);
     }
-    Ok(())
+}
+
+/// Prints the lines and `end`.
+#[tactic(auto, using(crate::proofs::Growing::further))]
+fn print_program(printer: &mut Printer, program: &Program)
+    ensures { Grows printer.old (canonical.canonical_text program.now) printer.new }
+{
+    print_lines(printer, program.names(), program.lines());
+    print(printer, b"end\n");
 }
 
 /// The lines and `end`.
-#[tactic(auto, using(crate::proofs::TextLemmas::joined))]
-fn lines_and_end(alloc: Global, program: &Program) -> Result<Vec<u8>, AllocError>
+fn lines_and_end(alloc: Global, program: &Program) -> Result<Text, AllocError>
     ensures { IfOk result (λ text. text.items ≡ canonical.canonical_text program.now) }
 {
-    let mut text = Vec::new(alloc);
-    add_lines(alloc, &mut text, program.names(), program.lines())?;
-    add(&mut text, b"end\n")?;
-    Ok(text)
+    let mut printer = begin(alloc);
+    print_program(&mut printer, program);
+    finish(printer)
 }
 
 /// The canonical text of a program that some text reads as: each line with one space between its words, brackets exactly

@@ -1,11 +1,11 @@
 //! Range terms and predicates.
 
-ghost use Rattle.std.specs.Prelude.{◌≡◌, ◌++◌, OnOk};
+ghost use Rattle.std.specs.Prelude.{◌≡◌, ◌++◌};
 ghost use Rattle.tcl_text.specs.Canonical as canonical;
 ghost use Rattle.tcl_report.specs.Parts as part_words;
+ghost use Rattle.tcl_report.specs.Growing.{Grows};
 
-use crate::text::{Text, add, add_atom, add_bracket, add_sign, add_type};
-use std::alloc::{AllocError, Global};
+use crate::printer::{Printer, print, print_atom, print_bracket, print_type};
 use tcl_lang::{Atom, CmpOp, Names, RngOp, RngPred, RngTerm, Ty};
 
 /// The loosest place at which an operand stands without brackets.
@@ -74,107 +74,92 @@ fn comparison_text(op: CmpOp) -> &'static str
     }
 }
 
-/// Adds an operand that stands at this place.
-#[tactic(auto, using(crate::proofs::TextLemmas::joined))]
-fn add_leaf(
-    alloc: Global,
-    text: &mut Text,
-    names: &Names,
-    atom: &Atom,
-    place: u32,
-) -> Result<(), AllocError>
-    ensures ok { OnOk result (text.new.items ≡ text.old.items ++ part_words.leaf_text names.now atom.now place) }
+/// Prints an operand that stands at this place.
+#[tactic(auto, using(crate::proofs::Growing::further))]
+fn print_leaf(printer: &mut Printer, names: &Names, atom: &Atom, place: u32)
+    ensures { Grows printer.old (part_words.leaf_text names.now atom.now place) printer.new }
 {
-    add_bracket(text, b'(', atom_place(atom), place)?;
-    add_atom(alloc, text, names, atom)?;
-    add_bracket(text, b')', atom_place(atom), place)
+    print_bracket(printer, b'(', atom_place(atom), place);
+    print_atom(printer, names, atom);
+    print_bracket(printer, b')', atom_place(atom), place);
 }
 
-/// Adds the beginning of a cast.
-#[tactic(auto, using(crate::proofs::TextLemmas::joined))]
-fn add_cast(alloc: Global, text: &mut Text, ty: Ty) -> Result<(), AllocError>
-    ensures ok { OnOk result (text.new.items ≡ text.old.items ++ part_words.cast_text ty) }
+/// Prints the beginning of a cast.
+#[tactic(auto, using(crate::proofs::Growing::further))]
+fn print_cast(printer: &mut Printer, ty: Ty)
+    ensures { Grows printer.old (part_words.cast_text ty) printer.new }
 {
-    add(text, b"cast(")?;
-    add_type(alloc, text, ty)?;
-    add(text, b", ")
+    print(printer, b"cast(");
+    print_type(printer, ty);
+    print(printer, b", ");
 }
 
-/// Adds a range term that stands at this place.
-#[tactic(auto, using(crate::proofs::TextLemmas::joined))]
-fn add_range_term(
-    term: &RngTerm,
-    alloc: Global,
-    names: &Names,
-    place: u32,
-    text: &mut Text,
-) -> Result<(), AllocError>
-    ensures ok { OnOk result (text.new.items ≡ text.old.items ++ canonical.range_term_text names.now term.now place) }
+/// Prints a range term that stands at this place.
+#[tactic(auto, using(crate::proofs::Growing::further))]
+fn print_range_term(term: &RngTerm, names: &Names, place: u32, printer: &mut Printer)
+    ensures { Grows printer.old (canonical.range_term_text names.now term.now place) printer.new }
 {
     match term {
-        RngTerm::Leaf(atom) => add_leaf(alloc, text, names, atom, place),
+        RngTerm::Leaf(atom) => print_leaf(printer, names, atom, place),
         RngTerm::Neg(inner) => {
-            add_sign(text, b'(', 2, place, b'-')?;
-            add_range_term(inner.get(), alloc, names, 0, text)?;
-            add_bracket(text, b')', 2, place)
+            print_bracket(printer, b'(', 2, place);
+            print(printer, b"-");
+            print_range_term(inner.get(), names, 0, printer);
+            print_bracket(printer, b')', 2, place);
         }
         RngTerm::Flip(inner) => {
-            add_sign(text, b'(', 2, place, b'~')?;
-            add_range_term(inner.get(), alloc, names, 1, text)?;
-            add_bracket(text, b')', 2, place)
+            print_bracket(printer, b'(', 2, place);
+            print(printer, b"~");
+            print_range_term(inner.get(), names, 1, printer);
+            print_bracket(printer, b')', 2, place);
         }
         RngTerm::Bin(op, left, right) => {
-            add_bracket(text, b'(', operator_place(*op), place)?;
-            add_range_term(left.get(), alloc, names, operator_place(*op), text)?;
-            add(text, operator_text(*op).as_bytes())?;
-            add_range_term(right.get(), alloc, names, right_place(*op), text)?;
-            add_bracket(text, b')', operator_place(*op), place)
+            print_bracket(printer, b'(', operator_place(*op), place);
+            print_range_term(left.get(), names, operator_place(*op), printer);
+            print(printer, operator_text(*op).as_bytes());
+            print_range_term(right.get(), names, right_place(*op), printer);
+            print_bracket(printer, b')', operator_place(*op), place);
         }
         RngTerm::Cast(ty, inner) => {
-            add_cast(alloc, text, *ty)?;
-            add_range_term(inner.get(), alloc, names, 7, text)?;
-            add(text, b")")
+            print_cast(printer, *ty);
+            print_range_term(inner.get(), names, 7, printer);
+            print(printer, b")");
         }
     }
 }
 
-/// Adds a range predicate that stands at this place.
-#[tactic(auto, using(crate::proofs::TextLemmas::joined))]
-pub(crate) fn add_range_pred(
-    pred: &RngPred,
-    alloc: Global,
-    names: &Names,
-    place: u32,
-    text: &mut Text,
-) -> Result<(), AllocError>
-    ensures ok { OnOk result (text.new.items ≡ text.old.items ++ part_words.range_pred_text names.now pred.now place) }
+/// Prints a range predicate that stands at this place.
+#[tactic(auto, using(crate::proofs::Growing::further))]
+pub(crate) fn print_range_pred(pred: &RngPred, names: &Names, place: u32, printer: &mut Printer)
+    ensures { Grows printer.old (part_words.range_pred_text names.now pred.now place) printer.new }
 {
     match pred {
-        RngPred::True => add(text, b"true"),
-        RngPred::False => add(text, b"false"),
+        RngPred::True => print(printer, b"true"),
+        RngPred::False => print(printer, b"false"),
         RngPred::Cmp(op, left, right) => {
-            add_range_term(left, alloc, names, 7, text)?;
-            add(text, comparison_text(*op).as_bytes())?;
-            add_range_term(right, alloc, names, 7, text)
+            print_range_term(left, names, 7, printer);
+            print(printer, comparison_text(*op).as_bytes());
+            print_range_term(right, names, 7, printer);
         }
         RngPred::Not(inner) => {
-            add_sign(text, b'[', 1, place, b'!')?;
-            add_range_pred(inner.get(), alloc, names, 0, text)?;
-            add_bracket(text, b']', 1, place)
+            print_bracket(printer, b'[', 1, place);
+            print(printer, b"!");
+            print_range_pred(inner.get(), names, 0, printer);
+            print_bracket(printer, b']', 1, place);
         }
         RngPred::Both(left, right) => {
-            add_bracket(text, b'[', 2, place)?;
-            add_range_pred(left.get(), alloc, names, 2, text)?;
-            add(text, b" && ")?;
-            add_range_pred(right.get(), alloc, names, 1, text)?;
-            add_bracket(text, b']', 2, place)
+            print_bracket(printer, b'[', 2, place);
+            print_range_pred(left.get(), names, 2, printer);
+            print(printer, b" && ");
+            print_range_pred(right.get(), names, 1, printer);
+            print_bracket(printer, b']', 2, place);
         }
         RngPred::Either(left, right) => {
-            add_bracket(text, b'[', 3, place)?;
-            add_range_pred(left.get(), alloc, names, 3, text)?;
-            add(text, b" || ")?;
-            add_range_pred(right.get(), alloc, names, 2, text)?;
-            add_bracket(text, b']', 3, place)
+            print_bracket(printer, b'[', 3, place);
+            print_range_pred(left.get(), names, 3, printer);
+            print(printer, b" || ");
+            print_range_pred(right.get(), names, 2, printer);
+            print_bracket(printer, b']', 3, place);
         }
     }
 }

@@ -1,140 +1,130 @@
 //! Algebraic terms and moduli.
 
-ghost use Rattle.std.specs.Prelude.{◌≡◌, ◌++◌, OnOk, Some};
+ghost use Rattle.std.specs.Prelude.{◌≡◌, ◌++◌, Some};
 ghost use Rattle.tcl_text.specs.Canonical as canonical;
 ghost use Rattle.tcl_report.specs.Parts as part_words;
+ghost use Rattle.tcl_report.specs.Growing.{Grows};
 
-use crate::text::{Text, add, add_bracket, add_integer, add_name, add_number, add_sign};
-use std::alloc::{AllocError, Global};
+use crate::printer::{Printer, print, print_bracket, print_integer, print_name, print_number};
 use tcl_lang::{Modulus, Names, Part, Term};
 
-/// Adds a term that stands at this place.
-#[tactic(auto, using(crate::proofs::TextLemmas::joined))]
-pub(crate) fn add_term(
-    term: &Term,
-    alloc: Global,
-    names: &Names,
-    place: u32,
-    text: &mut Text,
-) -> Result<(), AllocError>
-    ensures ok { OnOk result (text.new.items ≡ text.old.items ++ canonical.term_text names.now term.now place) }
+/// Prints a term that stands at this place.
+#[tactic(auto, using(crate::proofs::Growing::further))]
+pub(crate) fn print_term(term: &Term, names: &Names, place: u32, printer: &mut Printer)
+    ensures { Grows printer.old (canonical.term_text names.now term.now place) printer.new }
 {
     match term {
-        Term::Var(name) => add_name(text, names, *name),
-        Term::Num(n) => add_integer(alloc, text, n),
+        Term::Var(name) => print_name(printer, names, *name),
+        Term::Num(n) => print_integer(printer, n),
         Term::Neg(inner) => {
-            add_sign(text, b'(', 2, place, b'-')?;
-            add_term(inner.get(), alloc, names, 1, text)?;
-            add_bracket(text, b')', 2, place)
+            print_bracket(printer, b'(', 2, place);
+            print(printer, b"-");
+            print_term(inner.get(), names, 1, printer);
+            print_bracket(printer, b')', 2, place);
         }
         Term::Add(left, right) => {
-            add_bracket(text, b'(', 4, place)?;
-            add_term(left.get(), alloc, names, 4, text)?;
-            add(text, b" + ")?;
-            add_term(right.get(), alloc, names, 3, text)?;
-            add_bracket(text, b')', 4, place)
+            print_bracket(printer, b'(', 4, place);
+            print_term(left.get(), names, 4, printer);
+            print(printer, b" + ");
+            print_term(right.get(), names, 3, printer);
+            print_bracket(printer, b')', 4, place);
         }
         Term::Sub(left, right) => {
-            add_bracket(text, b'(', 4, place)?;
-            add_term(left.get(), alloc, names, 4, text)?;
-            add(text, b" - ")?;
-            add_term(right.get(), alloc, names, 3, text)?;
-            add_bracket(text, b')', 4, place)
+            print_bracket(printer, b'(', 4, place);
+            print_term(left.get(), names, 4, printer);
+            print(printer, b" - ");
+            print_term(right.get(), names, 3, printer);
+            print_bracket(printer, b')', 4, place);
         }
         Term::Mul(left, right) => {
-            add_bracket(text, b'(', 3, place)?;
-            add_term(left.get(), alloc, names, 3, text)?;
-            add(text, b" * ")?;
-            add_term(right.get(), alloc, names, 2, text)?;
-            add_bracket(text, b')', 3, place)
+            print_bracket(printer, b'(', 3, place);
+            print_term(left.get(), names, 3, printer);
+            print(printer, b" * ");
+            print_term(right.get(), names, 2, printer);
+            print_bracket(printer, b')', 3, place);
         }
         Term::Pow(base, power) => {
-            add_bracket(text, b'(', 1, place)?;
-            add_term(base.get(), alloc, names, 0, text)?;
-            add_exponent(alloc, text, *power, place)
+            print_bracket(printer, b'(', 1, place);
+            print_term(base.get(), names, 0, printer);
+            print_exponent(printer, *power, place);
         }
     }
 }
 
-/// Adds the exponent of a power that stands at this place.
-#[tactic(auto, using(crate::proofs::TextLemmas::joined))]
-fn add_exponent(alloc: Global, text: &mut Text, power: u32, place: u32) -> Result<(), AllocError>
-    ensures ok { OnOk result (text.new.items ≡ text.old.items ++ part_words.exponent_text power place) }
+/// Prints the exponent of a power that stands at this place.
+#[tactic(auto, using(crate::proofs::Growing::further))]
+fn print_exponent(printer: &mut Printer, power: u32, place: u32)
+    ensures { Grows printer.old (part_words.exponent_text power place) printer.new }
 {
-    add(text, b"**")?;
-    add_number(alloc, text, power as u64)?;
-    add_bracket(text, b')', 1, place)
+    print(printer, b"**");
+    print_number(printer, power as u64);
+    print_bracket(printer, b')', 1, place);
 }
 
-/// Adds the exponent of a part of a modulus, if it has one.
-#[tactic(auto, using(crate::proofs::TextLemmas::joined))]
-fn add_power(alloc: Global, text: &mut Text, power: Option<u32>) -> Result<(), AllocError>
-    ensures ok { OnOk result (text.new.items ≡ text.old.items ++ canonical.power_text power) }
+/// Prints the exponent of a part of a modulus, if it has one.
+#[tactic(auto, using(crate::proofs::Growing::further, crate::proofs::Growing::unchanged))]
+fn print_power(printer: &mut Printer, power: Option<u32>)
+    ensures { Grows printer.old (canonical.power_text power) printer.new }
 {
     match power {
-        None => Ok(()),
+        None => (),
         Some(k) => {
-            add(text, b"**")?;
-            add_number(alloc, text, k as u64)
+            print(printer, b"**");
+            print_number(printer, k as u64);
         }
     }
 }
 
-/// Adds a part of a modulus without its sign.
-#[tactic(auto, using(crate::proofs::TextLemmas::joined))]
-fn add_part(alloc: Global, text: &mut Text, part: &Part) -> Result<(), AllocError>
-    ensures ok { OnOk result (text.new.items ≡ text.old.items ++ canonical.part_text part.now) }
+/// Prints a part of a modulus without its sign.
+#[tactic(auto, using(crate::proofs::Growing::further))]
+fn print_part(printer: &mut Printer, part: &Part)
+    ensures { Grows printer.old (canonical.part_text part.now) printer.new }
 {
-    add_integer(alloc, text, &part.base)?;
-    add_power(alloc, text, part.power)
+    print_integer(printer, &part.base);
+    print_power(printer, part.power);
 }
 
-/// Adds a part with its sign as an operator.
-#[tactic(auto, using(crate::proofs::TextLemmas::joined))]
-fn add_more_part(alloc: Global, text: &mut Text, part: &Part) -> Result<(), AllocError>
-    ensures ok { OnOk result (text.new.items ≡ text.old.items ++ part_words.signed_part_text part.now) }
+/// Prints a part with its sign as an operator.
+#[tactic(auto, using(crate::proofs::Growing::further))]
+fn print_more_part(printer: &mut Printer, part: &Part)
+    ensures { Grows printer.old (part_words.signed_part_text part.now) printer.new }
 {
-    add(text, if part.minus { b" - " } else { b" + " })?;
-    add_part(alloc, text, part)
+    print(printer, if part.minus { b" - " } else { b" + " });
+    print_part(printer, part);
 }
 
-/// Adds the parts behind the first one.
-#[tactic(auto, using(crate::proofs::TextLemmas::parts_more, crate::proofs::TextLemmas::parts_done))]
-fn add_more_parts(alloc: Global, text: &mut Text, parts: &[Part]) -> Result<(), AllocError>
-    ensures ok { OnOk result (text.new.items ≡ text.old.items ++ part_words.signed_parts_text parts.now) }
+/// Prints the parts behind the first one.
+#[tactic(auto, using(crate::proofs::Growing::none, crate::proofs::Growing::more, crate::proofs::Growing::all))]
+fn print_more_parts(printer: &mut Printer, parts: &[Part])
+    ensures { Grows printer.old (part_words.signed_parts_text parts.now) printer.new }
 {
     for part in parts {
-        add_more_part(alloc, text, part)?;
+        print_more_part(printer, part);
     }
-    Ok(())
 }
 
-/// Adds a modulus, if there is one.
-#[tactic(auto, using(crate::proofs::TextLemmas::joined))]
-pub(crate) fn add_modulus(
-    alloc: Global,
-    text: &mut Text,
-    modulus: &Option<Modulus>,
-) -> Result<(), AllocError>
-    ensures ok { OnOk result (text.new.items ≡ text.old.items ++ canonical.modulus_text modulus.now) }
+/// Prints a modulus, if there is one.
+#[tactic(auto, using(crate::proofs::Growing::further, crate::proofs::Growing::unchanged))]
+pub(crate) fn print_modulus(printer: &mut Printer, modulus: &Option<Modulus>)
+    ensures { Grows printer.old (canonical.modulus_text modulus.now) printer.new }
 {
     match modulus {
-        None => Ok(()),
-        Some(parts) => add_parts(alloc, text, parts.as_slice()),
+        None => (),
+        Some(parts) => print_parts(printer, parts.as_slice()),
     }
 }
 
-/// Adds the parts of a modulus.
-#[tactic(auto, using(crate::proofs::TextLemmas::joined))]
-fn add_parts(alloc: Global, text: &mut Text, parts: &[Part]) -> Result<(), AllocError>
-    ensures ok { OnOk result (text.new.items ≡ text.old.items ++ canonical.modulus_text (Some parts.now)) }
+/// Prints the parts of a modulus.
+#[tactic(auto, using(crate::proofs::Growing::further, crate::proofs::Growing::unchanged))]
+fn print_parts(printer: &mut Printer, parts: &[Part])
+    ensures { Grows printer.old (canonical.modulus_text (Some parts.now)) printer.new }
 {
     match parts {
-        [] => Ok(()),
+        [] => (),
         [first, others @ ..] => {
-            add(text, b" mod ")?;
-            add_part(alloc, text, first)?;
-            add_more_parts(alloc, text, others)
+            print(printer, b" mod ");
+            print_part(printer, first);
+            print_more_parts(printer, others);
         }
     }
 }
