@@ -9,10 +9,6 @@ use Rattle.tcl_lang.specs.declared.range.RngPred.{RngPred, fold-RngPred}
 use Rattle.tcl_lang.specs.declared.pred.Line.{Line}
 use Rattle.tcl_text.specs.Canonical.{bracket, name_text, type_text, atom_place, atom_text, term_text, range_pred_text_step, part_text, modulus_text, line_text}
 
--- a sign, behind a bracket where its tree is looser than its place
-abbrev pub sign_text : ℕ → ℕ → ℕ → ℕ → List ℕ
-sign_text code own place sign = bracket code own place ++ sign ∷ []
-
 -- the end of a power
 abbrev pub exponent_text : ℕ → ℕ → List ℕ
 exponent_text k place = codes "**" ++ (decimal k ++ bracket 41 1 place)

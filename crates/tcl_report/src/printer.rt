@@ -1,6 +1,6 @@
 //! A text that is printed.
 
-ghost use Rattle.std.specs.Prelude.{◌≡◌, [], ◌∷◌, true, IfOk, codes, if◌then◌else◌, ◌++◌};
+ghost use Rattle.std.specs.Prelude.{◌≡◌, [], true, IfOk, codes, if◌then◌else◌, ◌++◌};
 ghost use Rattle.std.specs.Fmt.{decimal, signed_decimal};
 ghost use Rattle.tcl_text.specs.Canonical as canonical;
 ghost use Rattle.tcl_report.specs.Growing.{Grows};
