@@ -1,5 +1,5 @@
 -- Texts that grow by bytes joined one behind the other.
-use Rattle.std.proofs.Common.{◌≡◌, ◌<◌, ◌≤◌, ◌+◌, ◌++◌, ℕ, List, [], ◌∷◌, take, get_or, length, ap, sym, subst, ◌∙◌, append-nil}
+use Rattle.std.proofs.Common.{◌≡◌, ◌<◌, ◌≤◌, ◌+◌, ◌++◌, ℕ, List, [], ◌∷◌, take, get_or, length, ap, sym, subst, refl, true, ◌∙◌, append-nil}
 use Rattle.std.specs.Prelude.{flat_map}
 use Rattle.std.proofs.lemmas.List.{take_more, take_all}
 use Rattle.std.proofs.lemmas.Grind.{flat_map-append}
@@ -49,3 +49,23 @@ four g h i j = further g (three h i j)
 pub five : {s t u v w x : Printer} {a b c d e : List ℕ} → Grows s a t → Grows t b u → Grows u c v → Grows v d w → Grows w e x →
     Grows s (a ++ (b ++ (c ++ (d ++ e)))) x
 five g h i j k = further g (four h i j k)
+
+-- this much is left to join, where so much is to be joined in all
+pub record Leaves (s : Printer) (whole : List ℕ) (t : Printer) (left : List ℕ) : Type 0 where
+  pub was_whole : t.is_whole ≡ true → s.is_whole ≡ true
+  pub text : t.is_whole ≡ true → t.text.items ++ left ≡ s.text.items ++ whole
+
+pub start : (s : Printer) (whole : List ℕ) → Leaves s whole s whole
+start s whole = record { was_whole = λ w. w; text = λ w. refl }
+
+pub joined : {s t u : Printer} {whole a left : List ℕ} → Leaves s whole t (a ++ left) → Grows t a u → Leaves s whole u left
+joined {t = t} {a = a} {left = left} h g = record {
+  was_whole = λ w. h.was_whole (g.was_whole w);
+  text = λ w. ap (λ r. r ++ left) (g.text w) ∙ append_assoc t.text.items a left ∙ h.text (g.was_whole w);
+}
+
+pub ended : {s t : Printer} {whole left : List ℕ} → left ≡ [] → Leaves s whole t left → Grows s whole t
+ended {t = t} e h = record {
+  was_whole = h.was_whole;
+  text = λ w. sym (append-nil t.text.items) ∙ ap (λ r. t.text.items ++ r) (sym e) ∙ h.text w;
+}

@@ -1,6 +1,5 @@
 pub mod Growing
 pub mod Layers
-pub mod TextLemmas
 pub mod Leaner
 pub mod ReadTrees
 pub mod ReadLines

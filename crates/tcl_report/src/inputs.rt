@@ -1,10 +1,10 @@
 //! The lines of an input in a report.
 
-ghost use Rattle.std.specs.Prelude.{◌≡◌, ◌<◌, ◌++◌, ◌+◌, ◌^◌, [], OnOk, cond, pos, slice_index, slice_index_or};
+ghost use Rattle.std.specs.Prelude.{◌≡◌, ◌<◌, ◌++◌, ◌+◌, ◌^◌, [], cond, pos, slice_index, slice_index_or};
+ghost use Rattle.tcl_report.specs.Growing.{Grows};
 ghost use Rattle.tcl_report.specs.Report as report_words;
 
-use crate::text::{Text, add, add_integer, add_number};
-use std::alloc::{AllocError, Global};
+use crate::printer::{Printer, print, print_integer, print_number};
 use tcl_lang::{Line, Names, Typed};
 
 /// The bytes of name `n`, none past the last name.
@@ -45,60 +45,57 @@ fn counted(n: usize, more: bool) -> usize
     if more { n + 1 } else { n }
 }
 
-/// Adds the beginning of the line of a value.
-#[tactic(auto, using(crate::proofs::TextLemmas::joined))]
-fn add_head(alloc: Global, text: &mut Text, is_in: bool, number: u64) -> Result<(), AllocError>
-    ensures ok { OnOk result (text.new.items ≡ text.old.items ++ report_words.value_head is_in number) }
+/// Prints the beginning of the line of a value.
+#[tactic(auto, using(crate::proofs::Growing::further))]
+fn print_head(printer: &mut Printer, is_in: bool, number: u64)
+    ensures { Grows printer.old (report_words.value_head is_in number) printer.new }
 {
     if is_in {
-        add(text, b"in ")
+        print(printer, b"in ");
     } else {
-        add(text, b"nondet ")?;
-        add_number(alloc, text, number)?;
-        add(text, b" ")
+        print(printer, b"nondet ");
+        print_number(printer, number);
+        print(printer, b" ");
     }
 }
 
-/// Adds the line of one value, under the name to which it is given.
-#[tactic(auto, using(crate::proofs::TextLemmas::joined))]
-fn add_named(
-    alloc: Global,
-    text: &mut Text,
+/// Prints the line of one value, under the name to which it is given.
+#[tactic(auto, using(crate::proofs::Growing::further, crate::proofs::Growing::unchanged))]
+fn print_named(
+    printer: &mut Printer,
     names: &Names,
     is_in: bool,
     number: u64,
     value: i128,
     name: Option<u32>,
-) -> Result<(), AllocError>
-    ensures ok { OnOk result (text.new.items ≡ text.old.items ++ report_words.named_text is_in names.now number value name) }
+)
+    ensures { Grows printer.old (report_words.named_text is_in names.now number value name) printer.new }
 {
     match name {
-        None => Ok(()),
+        None => (),
         Some(name) => {
-            add_head(alloc, text, is_in, number)?;
-            add(text, name_at(names, name))?;
-            add(text, b" ")?;
-            add_integer(alloc, text, &value)?;
-            add(text, b"\n")
+            print_head(printer, is_in, number);
+            print(printer, name_at(names, name));
+            print(printer, b" ");
+            print_integer(printer, &value);
+            print(printer, b"\n");
         }
     }
 }
 
-/// Adds the line of the value that the line of place `k` takes, which is value `j` of the input.
-fn add_taken(
-    alloc: Global,
-    text: &mut Text,
+/// Prints the line of the value that the line of place `k` takes, which is value `j` of the input.
+fn print_taken(
+    printer: &mut Printer,
     typed: &Typed,
     input: &[i128],
     k: usize,
     j: usize,
     line: &Line,
-) -> Result<(), AllocError>
-    ensures ok { OnOk result (text.new.items ≡ text.old.items ++ report_words.taken_text typed.now.program.names (slice_index typed.now.places k) (slice_index_or input.now j (pos 0)) line.now) }
+)
+    ensures { Grows printer.old (report_words.taken_text typed.now.program.names (slice_index typed.now.places k) (slice_index_or input.now j (pos 0)) line.now) printer.new }
 {
-    add_named(
-        alloc,
-        text,
+    print_named(
+        printer,
         typed.program().names(),
         line.is_input(),
         number_at(typed, k),
@@ -107,22 +104,16 @@ fn add_taken(
     )
 }
 
-/// Adds the lines of an input, one for each value in the order of the lines that take them.
-#[tactic(auto, using(crate::proofs::ReportLemmas::values_more, crate::proofs::ReportLemmas::values_done, crate::proofs::ReportLemmas::count_more))]
-pub(crate) fn add_input(
-    alloc: Global,
-    text: &mut Text,
-    typed: &Typed,
-    input: &[i128],
-) -> Result<(), AllocError>
-    ensures ok { OnOk result (text.new.items ≡ text.old.items ++ report_words.input_text typed.now input.now) }
+/// Prints the lines of an input, one for each value in the order of the lines that take them.
+#[tactic(auto, using(crate::proofs::Growing::start, crate::proofs::ReportLemmas::values_more, crate::proofs::ReportLemmas::count_more))]
+pub(crate) fn print_input(printer: &mut Printer, typed: &Typed, input: &[i128])
+    ensures { Grows printer.old (report_words.input_text typed.now input.now) printer.new }
 {
     let lines = typed.program().lines();
     let mut j = 0;
     for k in 0..lines.len() {
         let line = lines.at(k);
-        add_taken(alloc, text, typed, input, k, j, line)?;
+        print_taken(printer, typed, input, k, j, line);
         j = counted(j, line.taken_name().is_some());
     }
-    Ok(())
 }

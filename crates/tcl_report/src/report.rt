@@ -1,16 +1,17 @@
 //! The text of a report.
 
-ghost use Rattle.std.specs.Prelude.{◌≡◌, ◌++◌, [], ◌∷◌, true, OnOk, IfOk, codes};
+ghost use Rattle.std.specs.Prelude.{◌≡◌, ◌++◌, [], ◌∷◌, true, IfOk, codes};
 ghost use Rattle.tcl_lang.specs.Versions.{form_of};
 ghost use Rattle.tcl_goals.specs.Places.{goals_of, has_goal};
 ghost use Rattle.tcl_board.specs.Finished.{IsFinished};
 ghost use Rattle.tcl_board.specs.Told as told;
+ghost use Rattle.tcl_report.specs.Growing.{Grows};
 ghost use Rattle.tcl_report.specs.Report as report_words;
 ghost use Rattle.tcl_report.specs.ReportSays.{IsReport};
 
-use crate::causes::{add_cause, add_stray};
-use crate::inputs::{add_input, number_at};
-use crate::text::{Text, add, add_number};
+use crate::causes::{print_cause, print_stray};
+use crate::inputs::{number_at, print_input};
+use crate::printer::{Printer, begin, finish, print, print_number};
 use std::alloc::{AllocError, Global};
 use tcl_board::{Board, Evidence, GoalAnswer};
 use tcl_goals::{Cause, Goal, Goals, Kind, Verdict, goals};
@@ -39,125 +40,98 @@ fn word_of_verdict(verdict: Verdict) -> &'static str
     }
 }
 
-/// Adds what follows the kind on a goal's line, and the lines of an input that belongs to it.
-#[tactic(auto, using(crate::proofs::TextLemmas::joined))]
-fn add_answer(
-    alloc: Global,
-    text: &mut Text,
-    typed: &Typed,
-    answer: GoalAnswer<'_>,
-) -> Result<(), AllocError>
-    ensures ok { OnOk result (text.new.items ≡ text.old.items ++ report_words.answer_text typed.now (told.told answer.entry)) }
+/// Prints what follows the kind on a goal's line, and the lines of an input that belongs to it.
+#[tactic(auto, using(crate::proofs::Growing::further, crate::proofs::Growing::unchanged))]
+fn print_answer(printer: &mut Printer, typed: &Typed, answer: GoalAnswer<'_>)
+    ensures { Grows printer.old (report_words.answer_text typed.now (told.told answer.entry)) printer.new }
 {
     match answer {
-        GoalAnswer::Proved => add(text, b"proved\n"),
-        GoalAnswer::Refuted(input) => add_refuted(alloc, text, typed, input.as_slice()),
-        GoalAnswer::Unproved(cause) => add_unproved(alloc, text, typed, cause),
+        GoalAnswer::Proved => print(printer, b"proved\n"),
+        GoalAnswer::Refuted(input) => print_refuted(printer, typed, input.as_slice()),
+        GoalAnswer::Unproved(cause) => print_unproved(printer, typed, cause),
         GoalAnswer::Strayed(place, input) => {
-            add_strayed(alloc, text, typed, place, input.as_slice())
+            print_strayed(printer, typed, place, input.as_slice());
         }
-        GoalAnswer::Open => Ok(()),
+        GoalAnswer::Open => (),
     }
 }
 
-/// Adds the words of an unproved goal.
-#[tactic(auto, using(crate::proofs::TextLemmas::joined))]
-fn add_unproved(
-    alloc: Global,
-    text: &mut Text,
-    typed: &Typed,
-    cause: &Cause,
-) -> Result<(), AllocError>
-    ensures ok { OnOk result (text.new.items ≡ text.old.items ++ (codes "unproved " ++ report_words.cause_text typed.now cause.now)) }
+/// Prints the words of an unproved goal.
+#[tactic(auto, using(crate::proofs::Growing::further))]
+fn print_unproved(printer: &mut Printer, typed: &Typed, cause: &Cause)
+    ensures { Grows printer.old (codes "unproved " ++ report_words.cause_text typed.now cause.now) printer.new }
 {
-    add(text, b"unproved ")?;
-    add_cause(alloc, text, typed, cause)?;
-    Ok(())
+    print(printer, b"unproved ");
+    print_cause(printer, typed, cause);
 }
 
-/// Adds the words of a goal that is unproved by an input which refutes the goal of this place.
-#[tactic(auto, using(crate::proofs::TextLemmas::joined))]
-fn add_strayed(
-    alloc: Global,
-    text: &mut Text,
-    typed: &Typed,
-    place: u32,
-    input: &[i128],
-) -> Result<(), AllocError>
-    ensures ok { OnOk result (text.new.items ≡ text.old.items ++ (codes "unproved " ++ report_words.stray_text typed.now place input.now)) }
+/// Prints the words of a goal that is unproved by an input which refutes the goal of this place.
+#[tactic(auto, using(crate::proofs::Growing::further))]
+fn print_strayed(printer: &mut Printer, typed: &Typed, place: u32, input: &[i128])
+    ensures { Grows printer.old (codes "unproved " ++ report_words.stray_text typed.now place input.now) printer.new }
 {
-    add(text, b"unproved ")?;
-    add_stray(alloc, text, typed, place, input)?;
-    Ok(())
+    print(printer, b"unproved ");
+    print_stray(printer, typed, place, input);
 }
 
-/// Adds the word of a refuted goal and the input that refutes it.
-#[tactic(auto, using(crate::proofs::TextLemmas::joined))]
-fn add_refuted(
-    alloc: Global,
-    text: &mut Text,
-    typed: &Typed,
-    input: &[i128],
-) -> Result<(), AllocError>
-    ensures ok { OnOk result (text.new.items ≡ text.old.items ++ (codes "refuted" ++ (10 ∷ [] ++ report_words.input_text typed.now input.now))) }
+/// Prints the word of a refuted goal and the input that refutes it.
+#[tactic(auto, using(crate::proofs::Growing::further))]
+fn print_refuted(printer: &mut Printer, typed: &Typed, input: &[i128])
+    ensures { Grows printer.old ((codes "refuted" ++ (10 ∷ [] ++ report_words.input_text typed.now input.now))) printer.new }
 {
-    add(text, b"refuted")?;
-    add(text, b"\n")?;
-    add_input(alloc, text, typed, input)?;
-    Ok(())
+    print(printer, b"refuted");
+    print(printer, b"\n");
+    print_input(printer, typed, input);
 }
 
-/// Adds the beginning of the line of a goal.
-#[tactic(auto, using(crate::proofs::TextLemmas::joined))]
-fn add_head(alloc: Global, text: &mut Text, typed: &Typed, goal: &Goal) -> Result<(), AllocError>
-    ensures ok { OnOk result (text.new.items ≡ text.old.items ++ report_words.goal_head typed.now goal.now) }
+/// Prints the beginning of the line of a goal.
+#[tactic(auto, using(crate::proofs::Growing::further))]
+fn print_head(printer: &mut Printer, typed: &Typed, goal: &Goal)
+    ensures { Grows printer.old (report_words.goal_head typed.now goal.now) printer.new }
 {
-    add(text, b"goal ")?;
-    add_number(alloc, text, goal.number as u64)?;
-    add(text, b" line ")?;
-    add_number(alloc, text, number_at(typed, goal.place as usize))?;
-    add(text, b" ")
+    print(printer, b"goal ");
+    print_number(printer, goal.number as u64);
+    print(printer, b" line ");
+    print_number(printer, number_at(typed, goal.place as usize));
+    print(printer, b" ");
 }
 
-/// Adds the line of a goal by what the board tells of it.
-#[tactic(auto, using(crate::proofs::TextLemmas::joined))]
-fn add_goal<E: Evidence>(
-    alloc: Global,
-    text: &mut Text,
-    typed: &Typed,
-    board: &Board<E>,
-    goal: &Goal,
-) -> Result<(), AllocError>
+/// Prints the line of a goal by what the board tells of it.
+#[tactic(auto, using(crate::proofs::Growing::further))]
+fn print_goal<E: Evidence>(printer: &mut Printer, typed: &Typed, board: &Board<E>, goal: &Goal)
     requires { has_goal board.now.program.lines goal.now.number ≡ true }
-    ensures ok { OnOk result (text.new.items ≡ text.old.items ++ report_words.goal_text typed.now goal.now (told.answer_of board.now goal.now.number)) }
+    ensures { Grows printer.old (report_words.goal_text typed.now goal.now (told.answer_of board.now goal.now.number)) printer.new }
 {
-    add_head(alloc, text, typed, goal)?;
-    add(text, word_of_kind(goal.kind).as_bytes())?;
-    add(text, b" ")?;
-    add_answer(alloc, text, typed, board.answer(goal.number))?;
-    Ok(())
+    print_head(printer, typed, goal);
+    print(printer, word_of_kind(goal.kind).as_bytes());
+    print(printer, b" ");
+    print_answer(printer, typed, board.answer(goal.number));
 }
 
-/// Adds the lines of all goals.
-#[tactic(auto, using(crate::proofs::ReportLemmas::goals_more, crate::proofs::ReportLemmas::goals_done, crate::proofs::GoalLemmas::goal_there))]
-fn add_goals<E: Evidence>(
-    alloc: Global,
-    text: &mut Text,
-    typed: &Typed,
-    board: &Board<E>,
-    goals: &Goals,
-) -> Result<(), AllocError>
+/// Prints the lines of all goals.
+#[tactic(auto, using(crate::proofs::Growing::start, crate::proofs::ReportLemmas::goals_more, crate::proofs::GoalLemmas::goal_there))]
+fn print_goals<E: Evidence>(printer: &mut Printer, typed: &Typed, board: &Board<E>, goals: &Goals)
     requires { goals.now ≡ goals_of board.now.program.lines }
-    ensures ok { OnOk result (text.new.items ≡ text.old.items ++ report_words.goals_text typed.now board.now goals.now) }
+    ensures { Grows printer.old (report_words.goals_text typed.now board.now goals.now) printer.new }
 {
     for k in 0..goals.len() {
-        add_goal(alloc, text, typed, board, goals.at(k))?;
+        print_goal(printer, typed, board, goals.at(k));
     }
-    Ok(())
+}
+
+/// Prints the lines of all goals and the verdict.
+#[tactic(auto, using(crate::proofs::Growing::further), unfolding(crate::specs::Report::report_of))]
+fn print_report<E: Evidence>(printer: &mut Printer, typed: &Typed, board: &Board<E>, goals: &Goals)
+    requires goals { goals.now ≡ goals_of board.now.program.lines }
+    requires lines { goals.now ≡ goals_of typed.now.program.lines }
+    ensures { Grows printer.old (report_words.report_of typed.now board.now) printer.new }
+{
+    print_goals(printer, typed, board, goals);
+    print(printer, word_of_verdict(board.verdict()).as_bytes());
+    print(printer, b"\n");
 }
 
 /// The lines of all goals and the verdict.
-#[tactic(auto, using(crate::proofs::TextLemmas::joined), unfolding(crate::specs::Report::report_of))]
 fn lines_and_verdict<E: Evidence>(
     alloc: Global,
     typed: &Typed,
@@ -168,11 +142,9 @@ fn lines_and_verdict<E: Evidence>(
     requires lines { goals.now ≡ goals_of typed.now.program.lines }
     ensures { IfOk result (λ text. text.items ≡ report_words.report_of typed.now board.now) }
 {
-    let mut text = Vec::new(alloc);
-    add_goals(alloc, &mut text, typed, board, goals)?;
-    add(&mut text, word_of_verdict(board.verdict()).as_bytes())?;
-    add(&mut text, b"\n")?;
-    Ok(text)
+    let mut printer = begin(alloc);
+    print_report(&mut printer, typed, board, goals);
+    finish(printer)
 }
 
 /// The text of the report by what the board tells.
