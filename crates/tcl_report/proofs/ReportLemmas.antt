@@ -1,5 +1,5 @@
 -- The steps of a report over what is left of the lines.
-use Rattle.std.proofs.Common.{◌≡◌, ◌≤◌, ◌+◌, cond, ◌++◌, ℕ, ℤ, pos, List, [], ◌∷◌, Bool, true, false, drop, length, ap, subst, ◌∙◌, arith, Some}
+use Rattle.std.proofs.Common.{◌≡◌, ◌≤◌, ◌+◌, cond, ℕ, ℤ, pos, List, [], ◌∷◌, Bool, true, false, drop, length, ap, subst, ◌∙◌, arith, Some}
 use Rattle.std.specs.Prelude.{slice_get, slice_index, slice_index_or, is_some}
 use Rattle.std.proofs.lemmas.List.{drop_more, drop_all}
 use Rattle.std.proofs.lemmas.Option.{slice_get_within, get_or_from_slice_get}

@@ -1,4 +1,4 @@
-use Rattle.std.proofs.Common.{◌≡◌, ◌++◌, ◌∙◌, codes}
+use Rattle.std.proofs.Common.{◌++◌, ◌∙◌, codes}
 use Rattle.tcl_lang.specs.declared.range.RngPred.TheOpen as layer
 use Rattle.tcl_lang.specs.declared.range.RngPred.TheVariants as rolled
 use Rattle.tcl_text.specs.Canonical.{bracket, range_term_text}

@@ -1,4 +1,4 @@
-use Rattle.std.proofs.Common.{◌≡◌, ◌++◌, ◌∙◌, ap, codes}
+use Rattle.std.proofs.Common.{◌++◌, ◌∙◌, ap, codes}
 use mathlib.Core.List.{append_assoc}
 use Rattle.tcl_lang.specs.declared.range.RngTerm.TheOpen as layer
 use Rattle.tcl_lang.specs.declared.range.RngTerm.TheVariants as rolled

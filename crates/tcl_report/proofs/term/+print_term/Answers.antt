@@ -1,4 +1,4 @@
-use Rattle.std.proofs.Common.{◌≡◌, ◌++◌, ◌∙◌, codes}
+use Rattle.std.proofs.Common.{◌++◌, ◌∙◌, codes}
 use Rattle.tcl_lang.specs.declared.term.Term.TheOpen as layer
 use Rattle.tcl_lang.specs.declared.term.Term.TheVariants as rolled
 use Rattle.tcl_text.specs.Canonical.{bracket, term_text}
