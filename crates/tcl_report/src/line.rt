@@ -5,54 +5,12 @@ ghost use Rattle.tcl_text.specs.Canonical as canonical;
 ghost use Rattle.tcl_report.specs.Parts as part_words;
 ghost use Rattle.tcl_report.specs.Growing.{Grows};
 ghost use Rattle.tcl_text.specs.Words as words;
-ghost use Rattle.tcl_lang.specs.Shape as shape;
 
 use crate::printer::{Printer, print, print_atom, print_name, print_number, print_type};
 use crate::range::print_range_pred;
 use crate::term::{print_modulus, print_term};
-use tcl_lang::{AlgPred, Atom, Instr, Line, Names, Op, Pred, RngPred, Ty};
-
-/// The word of an instruction.
-fn word_of_op(op: Op) -> &'static str
-    ensures { result.now ≡ words.word_of_op op }
-{
-    match op {
-        Op::Mov => "mov",
-        Op::Add => "add",
-        Op::Adds => "adds",
-        Op::Adc => "adc",
-        Op::Adcs => "adcs",
-        Op::Sub => "sub",
-        Op::Subb => "subb",
-        Op::Sbb => "sbb",
-        Op::Sbbs => "sbbs",
-        Op::Mul => "mul",
-        Op::Mull => "mull",
-        Op::Mulj => "mulj",
-        Op::Shl => "shl",
-        Op::Split => "split",
-        Op::Join => "join",
-        Op::Cast => "cast",
-        Op::Vpc => "vpc",
-        Op::Cmov => "cmov",
-        Op::And => "and",
-        Op::Or => "or",
-        Op::Xor => "xor",
-        Op::Not => "not",
-        Op::Nondet => "nondet",
-    }
-}
-
-/// Whether the instruction has an amount.
-fn has_amount(op: Op) -> bool
-    ensures { result ≡ shape.has_amount op }
-{
-    match op {
-        Op::Shl => true,
-        Op::Split => true,
-        _ => false,
-    }
-}
+use tcl_lang::{AlgPred, Atom, Instr, Line, Names, Pred, RngPred, Ty};
+use tcl_text::{has_amount, word_of_op};
 
 /// Prints an algebraic predicate.
 #[tactic(auto, using(crate::proofs::Growing::further))]

@@ -1,7 +1,6 @@
 // Instructions behind their word and type: names, operands and an amount, as many as the form has.
 
 ghost use Rattle.std.specs.Prelude.{◌≡◌, MatchOption};
-ghost use Rattle.tcl_lang.specs.Shape as shape;
 ghost use Rattle.tcl_text.specs.Statements as grammar;
 ghost use Rattle.tcl_parse.specs.Readers.{Found};
 ghost use Rattle.tcl_parse.specs.StatementReaders.{NoNames, NoOperands, NoAmount, NoForm};
@@ -12,7 +11,7 @@ use crate::tree::reader::{Reading, capped, number_at};
 use std::alloc::{AllocError, Global};
 use tcl_lang::{Args, Instr, Op, Outs, Ty};
 use tcl_list::Listing;
-use tcl_text::Token;
+use tcl_text::{Token, has_amount};
 
 /// So many names, and the tokens behind them.
 fn names(
@@ -56,13 +55,6 @@ fn operands(
         rest = next.rest;
     }
     Ok(Some(Reading { tree: atoms, rest }))
-}
-
-/// The instruction has an amount.
-fn has_amount(op: Op) -> bool
-    ensures { result ≡ shape.has_amount op }
-{
-    matches!(op, Op::Shl | Op::Split)
 }
 
 /// An amount where there is one, up to the end of the line.

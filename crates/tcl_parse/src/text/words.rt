@@ -5,7 +5,7 @@ ghost use Rattle.std.specs.List.{find};
 ghost use Rattle.tcl_text.specs.Words as words;
 
 use tcl_lang::{Op, Ty};
-use tcl_text::{Keyword, Token};
+use tcl_text::{Keyword, Token, word_of_op};
 
 /// The instructions.
 const OPS: [Op; 23] = [
@@ -53,37 +53,6 @@ const KEYWORDS: [Keyword; 16] = [
     Keyword::Proc,
     Keyword::Call,
 ];
-
-/// How an instruction is written.
-fn word_of_op(op: Op) -> &'static str
-    ensures { result.now ≡ words.word_of_op op }
-{
-    match op {
-        Op::Mov => "mov",
-        Op::Add => "add",
-        Op::Adds => "adds",
-        Op::Adc => "adc",
-        Op::Adcs => "adcs",
-        Op::Sub => "sub",
-        Op::Subb => "subb",
-        Op::Sbb => "sbb",
-        Op::Sbbs => "sbbs",
-        Op::Mul => "mul",
-        Op::Mull => "mull",
-        Op::Mulj => "mulj",
-        Op::Shl => "shl",
-        Op::Split => "split",
-        Op::Join => "join",
-        Op::Cast => "cast",
-        Op::Vpc => "vpc",
-        Op::Cmov => "cmov",
-        Op::And => "and",
-        Op::Or => "or",
-        Op::Xor => "xor",
-        Op::Not => "not",
-        Op::Nondet => "nondet",
-    }
-}
 
 /// How a reserved word is written.
 fn word_of_keyword(keyword: Keyword) -> &'static str
