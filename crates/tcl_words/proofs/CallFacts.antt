@@ -1,17 +1,16 @@
 -- What the calls over a versioned program rest on: literals stay within the gates, words are narrow, and results that are set are found.
-use Rattle.std.proofs.Common.{◌≡◌, ◌≢◌, ◌⊎◌, inl, inr, ℕ, zero, suc, ◌+◌, ◌<◌, ◌≤◌, ◌==◌, Bool, true, false, ◌&&◌, List, [], ◌∷◌, length, map, get_or, set, Option, Some, None, slice_get, refl, sym, ◌∙◌, ap, ap₂, subst, arith}
+use Rattle.std.proofs.Common.{◌≡◌, ◌≢◌, inl, inr, ℕ, zero, suc, ◌≤◌, ◌==◌, Bool, true, List, [], ◌∷◌, length, get_or, set, Some, None, slice_get, refl, sym, ◌∙◌, ap, subst, arith}
 use Rattle.std.proofs.lemmas.Bool.{and_parts, cases_eq, cases_lt, ltb-true, eqb-true}
-use Rattle.std.proofs.lemmas.List.{length-set, get_or-set_same, get_or-set_other, set_past}
+use Rattle.std.proofs.lemmas.List.{get_or-set_same, get_or-set_other, set_past}
 use Rattle.tcl_gates.specs.declared.gate.Gate.{Gate}
-use Rattle.tcl_gates.specs.Meaning.{AreWithin, IsPart, Shows}
+use Rattle.tcl_gates.specs.Meaning.{AreWithin, IsPart}
 use Rattle.tcl_gates.proofs.Shown.{shows_own, shows_within, begins_length, part_none, within_none}
-use Rattle.tcl_circuits.specs.Circuits.{constant}
-use Rattle.tcl_circuits.proofs.Within.{constant_within, length_constant}
+use Rattle.tcl_circuits.proofs.Within.{constant_within}
 use Rattle.tcl_lang.specs.declared.ty.Ty.{Ty}
 use Rattle.tcl_lang.specs.declared.instr.Atom.{Atom}
 use Rattle.tcl_lang.specs.declared.instr.Atom.TheVariants.{Var, Lit}
 use Rattle.tcl_lang.specs.declared.instr.Op.{Op}
-use Rattle.tcl_lang.specs.declared.instr.Op.TheVariants.{Mov, Add, Adds, Adc, Adcs, Sub, Subb, Sbb, Sbbs, Mul, Mull, Mulj, Shl, Split, Join, Cast, Vpc, Cmov, And, Or, Xor, Not, Nondet}
+use Rattle.tcl_lang.specs.declared.instr.Op.TheVariants.{Adds, Adcs, Subb, Sbbs, Mull, Shl, Split, Nondet}
 use Rattle.tcl_lang.specs.declared.instr.Instr.{Instr}
 use Rattle.tcl_lang.specs.declared.variable.Variable.{Variable}
 use Rattle.tcl_lang.specs.Types.{IsTy}

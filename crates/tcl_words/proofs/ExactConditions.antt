@@ -1,20 +1,19 @@
 -- The exactness circuits show whether the condition holds.
-use Rattle.std.proofs.Common.{◌≡◌, ℕ, ◌+◌, ◌*◌, ◌<◌, ◌≤◌, Bool, true, false, not, ◌&&◌, ◌||◌, List, [], ◌∷◌, length, nat_lt, refl, sym, ◌∙◌, ap, ap₂, subst, arith, ℤ, pos, ◌+ℤ◌, ◌-ℤ◌, ◌*ℤ◌, ◌^◌, int_le, int_lt, ◌≤ℤ◌, ◌<ℤ◌, Decides, max}
+use Rattle.std.proofs.Common.{◌≡◌, ℕ, ◌+◌, Bool, true, false, List, length, refl, ◌∙◌, ap, ap₂, subst, arith, ℤ, pos, ◌+ℤ◌, ◌-ℤ◌, ◌*ℤ◌, ◌^◌, int_le, int_lt, ◌≤ℤ◌, ◌<ℤ◌, Decides, max}
 use Rattle.std.proofs.lemmas.Int.{ints}
-use Rattle.std.proofs.lemmas.Bool.{ltb-true, and_from}
+use Rattle.std.proofs.lemmas.Bool.{and_from}
 use Rattle.std.proofs.lemmas.Bool.Decides.{same_from_decides}
 use Rattle.tcl_num.specs.Range.{InRange, least_value, values_end}
 use Rattle.tcl_gates.specs.declared.gate.Gate.{Gate}
 use Rattle.tcl_lang.specs.declared.ty.Ty.{Ty}
 use Rattle.tcl_lang.specs.declared.instr.Op.{Op}
-use Rattle.tcl_lang.specs.declared.instr.Op.TheVariants.{Mov, Add, Adds, Adc, Adcs, Sub, Subb, Sbb, Sbbs, Mul, Mull, Mulj, Shl, Split, Join, Cast, Vpc, Cmov, And, Or, Xor, Not, Nondet}
+use Rattle.tcl_lang.specs.declared.instr.Op.TheVariants.{Add, Adc, Sub, Sbb, Mul, Shl, Vpc}
 use Rattle.tcl_lang.specs.Types.{IsTy, is_in_type, InType}
-use Rattle.tcl_lang.specs.Typing.{allows_amount}
 use Rattle.tcl_lang.specs.Exactness.{has_condition, exact_value}
 use Rattle.tcl_lang.proofs.TypedStores.{is_in_type_sound}
-use Rattle.tcl_bits.specs.Value.{bit_value, word_value}
-use Rattle.tcl_bits.specs.Circuit.{sum_bits, difference_bits, product_bits, extended_bits, shifted_bits, range_bit}
-use Rattle.tcl_bits.specs.Exactness.{full_product, full_shift, sum_fits, difference_fits, product_fits, shift_fits, cast_fits}
+use Rattle.tcl_bits.specs.Value.{bit_value}
+use Rattle.tcl_bits.specs.Circuit.{sum_bits, difference_bits, extended_bits, shifted_bits, range_bit}
+use Rattle.tcl_bits.specs.Exactness.{full_product, sum_fits, difference_fits}
 use Rattle.tcl_bits.proofs.ExactResults.{sum_exact, difference_exact, product_exact, shift_exact, cast_exact}
 use Rattle.tcl_circuits.proofs.Adders.{ShowsCarried, adder_shows}
 use Rattle.tcl_circuits.proofs.Chains.{ShowsWires, ShowsWire, difference_shows, extended_shows, shifted_shows, range_shows}

@@ -1,10 +1,10 @@
 -- What typing says of the lines of a versioned form: the types of operands, and that literal numbers lie in theirs.
-use Rattle.std.proofs.Common.{◌≡◌, ◌≢◌, ◌⊎◌, inl, inr, ℕ, zero, suc, ◌+◌, ◌-◌, ◌<◌, ◌≤◌, Bool, true, false, not, ◌&&◌, ◌||◌, List, [], ◌∷◌, length, map, get_or, set, Option, Some, None, slice_get, filter_map, replicate, take, refl, sym, ◌∙◌, ap, ap₂, subst, arith}
+use Rattle.std.proofs.Common.{◌≡◌, ◌≢◌, inl, inr, ℕ, zero, suc, ◌+◌, ◌-◌, ◌<◌, ◌≤◌, Bool, true, false, not, ◌&&◌, ◌||◌, List, [], ◌∷◌, length, map, get_or, set, Option, Some, None, slice_get, filter_map, replicate, take, refl, sym, ◌∙◌, ap, ap₂, subst, arith}
 use Rattle.std.specs.Option.{is_none}
 use Rattle.std.specs.List.{list_any, list_all}
 use Rattle.std.proofs.lemmas.Bool.{and_parts, cases_eq, cases_lt}
 use Rattle.std.proofs.lemmas.Option.{slice_get_within}
-use Rattle.std.proofs.lemmas.List.{length-set, get_or-set_same, get_or-set_other, set_past}
+use Rattle.std.proofs.lemmas.List.{get_or-set_same, get_or-set_other, set_past}
 use Rattle.tcl_lang.specs.declared.ty.Ty.{Ty}
 use Rattle.tcl_lang.specs.declared.ty.Word.{Word}
 use Rattle.tcl_lang.specs.declared.instr.Atom.{Atom}
@@ -21,13 +21,13 @@ use Rattle.tcl_lang.specs.Types.{IsTy, is_ty}
 use Rattle.tcl_lang.specs.Results.{result_types}
 use Rattle.tcl_lang.specs.Names.{name_of, line_atoms, stated_atoms, range_atoms}
 use Rattle.tcl_lang.specs.Line.{predicate_of, instruction_of}
-use Rattle.tcl_lang.specs.Typing.{type_at, atom_type, types_at, types_after, define_all, is_sound_literal, stated_agrees, sides_agree, allows, allows_amount}
-use Rattle.tcl_lang.specs.Shape.{is_atom, is_line, is_stated, is_range, is_instruction}
+use Rattle.tcl_lang.specs.Typing.{type_at, atom_type, types_at, types_after, define_all, is_sound_literal, stated_agrees, sides_agree}
+use Rattle.tcl_lang.specs.Shape.{is_atom, is_line, is_stated, is_range}
 use Rattle.tcl_lang.specs.Execution.{IsRunnable}
 use Rattle.tcl_lang.specs.Versions.{numbers_from}
 use Rattle.tcl_lang.proofs.ResultTypes.{AreTypes, result_types_are}
 use Rattle.tcl_lang.proofs.TypedStores.{type_is, is_ty_sound}
-use Rattle.tcl_lang.proofs.TypedRuns.{HasNoReason, line_typed, line_shape, HasInstructionShape, instruction_shape}
+use Rattle.tcl_lang.proofs.TypedRuns.{HasNoReason, line_typed, line_shape, instruction_shape}
 use Rattle.tcl_lang.specs.Values.{types_of}
 use Rattle.tcl_words.specs.Ranges.{atom_lits, atom_ty}
 use Rattle.tcl_words.specs.Steps.{operand_lits, first_type}

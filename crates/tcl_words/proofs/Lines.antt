@@ -1,5 +1,5 @@
 -- A line by its place: what it makes is what its place makes, and where there is no line nothing is made.
-use Rattle.std.proofs.Common.{◌≡◌, ℕ, ◌≤◌, List, length, Option, Some, None, slice_get, sym, ◌∙◌, ap, subst}
+use Rattle.std.proofs.Common.{◌≡◌, ℕ, ◌≤◌, List, length, Some, slice_get, sym, ◌∙◌, ap, subst}
 use Rattle.std.proofs.lemmas.Option.{slice_get_past}
 use Rattle.tcl_gates.specs.declared.gate.Gate.{Gate}
 use Rattle.tcl_gates.specs.Meaning.{IsPart}

@@ -1,5 +1,5 @@
 -- The operands of a well-typed instruction show words of the types that its row asks.
-use Rattle.std.proofs.Common.{◌≡◌, ◌≢◌, ℕ, zero, suc, ◌<◌, Bool, true, false, not, ◌&&◌, List, [], ◌∷◌, length, map, Option, Some, None, slice_get, refl, sym, ◌∙◌, ap, subst, arith, ℤ, pos}
+use Rattle.std.proofs.Common.{◌≡◌, ◌≢◌, ℕ, Bool, true, false, ◌&&◌, List, [], ◌∷◌, length, Option, Some, None, slice_get, refl, sym, ap, subst, arith}
 use Rattle.std.specs.Option.{is_none}
 use Rattle.std.proofs.lemmas.Bool.{and_parts}
 use Rattle.tcl_gates.specs.declared.gate.Gate.{Gate}
@@ -11,8 +11,8 @@ use Rattle.tcl_lang.specs.declared.instr.Atom.{Atom}
 use Rattle.tcl_lang.specs.declared.instr.Atom.TheVariants.{Var, Lit}
 use Rattle.tcl_lang.specs.declared.instr.Op.{Op}
 use Rattle.tcl_lang.specs.declared.instr.Op.TheVariants.{Mov, Add, Adds, Adc, Adcs, Sub, Subb, Sbb, Sbbs, Mul, Mull, Mulj, Shl, Split, Join, Cast, Vpc, Cmov, And, Or, Xor, Not, Nondet}
-use Rattle.tcl_lang.specs.Types.{IsTy, is_ty, same_type, bit_type, unsigned_of}
-use Rattle.tcl_lang.specs.Typing.{atom_type, type_at, suits, operands_suit, operand_types, is_sound_literal}
+use Rattle.tcl_lang.specs.Types.{IsTy, is_ty, bit_type, unsigned_of}
+use Rattle.tcl_lang.specs.Typing.{atom_type, type_at, suits, operands_suit, operand_types}
 use Rattle.tcl_lang.specs.Store.{word_of}
 use Rattle.tcl_lang.specs.Shape.{is_atom}
 use Rattle.tcl_lang.specs.Line.{values_of}
@@ -22,7 +22,7 @@ use Rattle.tcl_words.specs.Words.{IsWord, AreOperands}
 use Rattle.tcl_words.specs.Ranges.{atom_lits, atom_ty}
 use Rattle.tcl_words.specs.Steps.{operand_lits}
 use Rattle.tcl_words.proofs.Rows.{width_positive}
-use Rattle.tcl_words.proofs.RangeTerms.{Setting, VarShown, AtomsShown, constant_bits, constant_is}
+use Rattle.tcl_words.proofs.RangeTerms.{Setting, AtomsShown, constant_bits, constant_is}
 
 -- the literals of an operand show a word of this type
 pub record AtomShown (gates : List Gate) (free : List Bool) (s : Setting) (T : Ty) (atom : Atom) : Type 0 where

@@ -1,16 +1,19 @@
 -- Small facts that the code of instructions and ranges rests on: literals within the gates, circuits that grow, and types of variables.
-use Rattle.std.proofs.Common.{◌≡◌, ℕ, zero, suc, ◌+◌, ◌*◌, ◌/◌, ◌<◌, ◌≤◌, Bool, false, List, [], ◌∷◌, length, map, get_or, set, Some, None, slice_get, refl, sym, ◌∙◌, ap, ap₂, subst, arith}
+use Rattle.std.proofs.Common.{◌≡◌, ℕ, zero, suc, ◌/◌, ◌≤◌, Bool, false, List, [], ◌∷◌, length, map, get_or, set, Some, None, slice_get, refl, sym, ◌∙◌, ap, ap₂, subst, arith}
 use Rattle.std.proofs.lemmas.Option.{slice_get_past}
 use Rattle.tcl_gates.specs.declared.gate.Gate.{Gate}
 use Rattle.tcl_gates.specs.Meaning.{AreWithin, Begins, IsPart}
-use Rattle.tcl_gates.proofs.Shown.{begins_trans, part_first, part_second, within_none, within_grown}
+use Rattle.tcl_gates.proofs.Shown.{begins_trans, part_first, part_second, within_grown}
 use Rattle.tcl_lang.specs.declared.ty.Ty.{Ty}
 use Rattle.tcl_lang.specs.declared.variable.Variable.{Variable}
 use Rattle.tcl_circuits.specs.Wires.{Wires}
-use Rattle.tcl_circuits.specs.Circuits.{adder, difference, extended, in_range}
+use Rattle.tcl_circuits.specs.Circuits.{in_range}
 use Rattle.tcl_circuits.proofs.Adders.{adder_begins}
 use Rattle.tcl_circuits.proofs.Loops.{difference_begins, range_begins}
 use Rattle.tcl_circuits.proofs.Rows.{product_begins}
+use Rattle.tcl_words.specs.declared.chain.Chain.{Chain}
+use Rattle.tcl_words.specs.declared.chain.Chain.TheVariants.{Sum, Difference}
+use Rattle.tcl_words.specs.Chains.{chained}
 use Rattle.tcl_words.specs.Instructions.{first_lit, wide_product}
 use Rattle.tcl_words.specs.Exactness.{plain, fits}
 use Rattle.tcl_lang.specs.Values.{types_of}
@@ -34,11 +37,12 @@ wide_begins gates signed xs ys = product_begins gates _ _
 pub fits_begins : {gates : List Gate} (signed : Bool) (width : ℕ) (s : Wires) → Begins gates s.gates → Begins gates (fits signed width s).gates
 fits_begins signed width s b = begins_trans b (range_begins s.gates signed width s.word)
 
-pub sum_range_begins : (gates : List Gate) (signed : Bool) (width : ℕ) (xs ys : List ℕ) (c : ℕ) → Begins gates (fits signed width (plain (adder gates xs ys c))).gates
-sum_range_begins gates signed width xs ys c = fits_begins signed width (plain (adder gates xs ys c)) (adder_begins gates xs ys c)
+pub chained_begins : (chain : Chain) (gates : List Gate) (xs ys : List ℕ) (c : ℕ) → Begins gates (chained chain gates xs ys c).gates
+chained_begins Sum gates xs ys c = adder_begins gates xs ys c
+chained_begins Difference gates xs ys c = difference_begins gates xs ys c
 
-pub difference_range_begins : (gates : List Gate) (signed : Bool) (width : ℕ) (xs ys : List ℕ) (c : ℕ) → Begins gates (fits signed width (plain (difference gates xs ys c))).gates
-difference_range_begins gates signed width xs ys c = fits_begins signed width (plain (difference gates xs ys c)) (difference_begins gates xs ys c)
+pub chain_range_begins : (chain : Chain) (gates : List Gate) (signed : Bool) (width : ℕ) (xs ys : List ℕ) (c : ℕ) → Begins gates (fits signed width (plain (chained chain gates xs ys c))).gates
+chain_range_begins chain gates signed width xs ys c = fits_begins signed width (plain (chained chain gates xs ys c)) (chained_begins chain gates xs ys c)
 
 pub product_range_begins : (gates : List Gate) (signed wide : Bool) (width : ℕ) (xs ys : List ℕ) → Begins gates (fits signed width (wide_product gates wide xs ys)).gates
 product_range_begins gates signed wide width xs ys = fits_begins signed width (wide_product gates wide xs ys) (wide_begins gates wide xs ys)
@@ -53,23 +57,14 @@ fits_second {gates} {middle} {now} signed width wide s word b e f p w =
     part_second b
     (subst (λ m. IsPart m now (in_range m signed width s.word).gates) e (subst (λ l. IsPart middle now (in_range middle signed width l).gates) f (subst (λ n. IsPart middle now (in_range middle signed n word).gates) w p)))
 
-pub sum_first : (gates now : List Gate) (signed : Bool) (width : ℕ) (xs ys x y : List ℕ) (c : ℕ) → x ≡ xs → y ≡ ys → IsPart gates now (adder gates x y c).gates → IsPart gates now (fits signed width (plain (adder gates xs ys c))).gates
-sum_first gates now signed width xs ys x y c e f p = fits_first signed width (plain (adder gates xs ys c)) (subst (λ t. IsPart gates now t.gates) (ap₂ (λ p q. adder gates p q c) e f) p)
+pub chain_first : (chain : Chain) (gates now : List Gate) (signed : Bool) (width : ℕ) (xs ys x y : List ℕ) (c : ℕ) → x ≡ xs → y ≡ ys → IsPart gates now (chained chain gates x y c).gates → IsPart gates now (fits signed width (plain (chained chain gates xs ys c))).gates
+chain_first chain gates now signed width xs ys x y c e f p = fits_first signed width (plain (chained chain gates xs ys c)) (subst (λ t. IsPart gates now t.gates) (ap₂ (λ p q. chained chain gates p q c) e f) p)
 
-pub sum_second : (gates middle now : List Gate) (word : List ℕ) (signed : Bool) (width wide : ℕ) (xs ys x y : List ℕ) (c : ℕ) → x ≡ xs → y ≡ ys → middle ≡ (adder gates x y c).gates → word ≡ (adder gates x y c).word
-    → IsPart middle now (in_range middle signed wide word).gates → wide ≡ width → IsPart gates now (fits signed width (plain (adder gates xs ys c))).gates
-sum_second gates middle now word signed width wide xs ys x y c e f g h p w =
-    let same = ap₂ (λ p q. adder gates p q c) e f in
-    fits_second signed width wide (plain (adder gates xs ys c)) word (adder_begins gates xs ys c) (g ∙ ap (λ t. t.gates) same) (h ∙ ap (λ t. t.word) same) p w
-
-pub difference_first : (gates now : List Gate) (signed : Bool) (width : ℕ) (xs ys x y : List ℕ) (c : ℕ) → x ≡ xs → y ≡ ys → IsPart gates now (difference gates x y c).gates → IsPart gates now (fits signed width (plain (difference gates xs ys c))).gates
-difference_first gates now signed width xs ys x y c e f p = fits_first signed width (plain (difference gates xs ys c)) (subst (λ t. IsPart gates now t.gates) (ap₂ (λ p q. difference gates p q c) e f) p)
-
-pub difference_second : (gates middle now : List Gate) (word : List ℕ) (signed : Bool) (width wide : ℕ) (xs ys x y : List ℕ) (c : ℕ) → x ≡ xs → y ≡ ys → middle ≡ (difference gates x y c).gates → word ≡ (difference gates x y c).word
-    → IsPart middle now (in_range middle signed wide word).gates → wide ≡ width → IsPart gates now (fits signed width (plain (difference gates xs ys c))).gates
-difference_second gates middle now word signed width wide xs ys x y c e f g h p w =
-    let same = ap₂ (λ p q. difference gates p q c) e f in
-    fits_second signed width wide (plain (difference gates xs ys c)) word (difference_begins gates xs ys c) (g ∙ ap (λ t. t.gates) same) (h ∙ ap (λ t. t.word) same) p w
+pub chain_second : (chain : Chain) (gates middle now : List Gate) (word : List ℕ) (signed : Bool) (width wide : ℕ) (xs ys x y : List ℕ) (c : ℕ) → x ≡ xs → y ≡ ys → middle ≡ (chained chain gates x y c).gates → word ≡ (chained chain gates x y c).word
+    → IsPart middle now (in_range middle signed wide word).gates → wide ≡ width → IsPart gates now (fits signed width (plain (chained chain gates xs ys c))).gates
+chain_second chain gates middle now word signed width wide xs ys x y c e f g h p w =
+    let same = ap₂ (λ p q. chained chain gates p q c) e f in
+    fits_second signed width wide (plain (chained chain gates xs ys c)) word (chained_begins chain gates xs ys c) (g ∙ ap (λ t. t.gates) same) (h ∙ ap (λ t. t.word) same) p w
 
 pub product_first : (gates now : List Gate) (signed : Bool) (width : ℕ) (xs ys : List ℕ) → IsPart gates now (wide_product gates signed xs ys).gates → IsPart gates now (fits signed width (wide_product gates signed xs ys)).gates
 product_first gates now signed width xs ys p = fits_first signed width (wide_product gates signed xs ys) p

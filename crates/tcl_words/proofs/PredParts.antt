@@ -1,21 +1,20 @@
 -- The circuits of range predicates grow, part by part.
-use Rattle.std.proofs.Common.{◌≡◌, ℕ, Bool, true, false, List, [], ◌∷◌, ◌++◌, refl, sym, ◌∙◌, ap, subst}
+use Rattle.std.proofs.Common.{◌≡◌, ℕ, Bool, List, sym, ◌∙◌, ap, subst}
 use Rattle.tcl_gates.specs.declared.gate.Gate.{Gate}
 use Rattle.tcl_gates.specs.Meaning.{Begins, IsPart}
-use Rattle.tcl_gates.proofs.Shown.{begins_same, begins_push, begins_trans, part_none, part_first, part_second, part_all}
+use Rattle.tcl_gates.proofs.Shown.{begins_same, begins_push, begins_trans, part_first, part_second, part_all}
 use Rattle.tcl_lang.specs.declared.ty.Ty.{Ty}
 use Rattle.tcl_lang.specs.declared.range.CmpOp.{CmpOp}
 use Rattle.tcl_lang.specs.declared.range.CmpOp.TheVariants.{Eq, Ne, Lt, Le, Gt, Ge}
 use Rattle.tcl_lang.specs.declared.range.RngTerm.{RngTerm}
-use Rattle.tcl_lang.specs.declared.range.RngPred.{RngPred, RngPred-F, fold-RngPred, roll-RngPred, map-RngPred, ind-RngPred}
+use Rattle.tcl_lang.specs.declared.range.RngPred.{RngPred, RngPred-F, roll-RngPred, map-RngPred, ind-RngPred}
 use Rattle.tcl_lang.specs.declared.range.RngPred.TheFolds.{fold-roll-RngPred}
 use Rattle.tcl_lang.specs.declared.range.RngPred.TheOpen as layer
 use Rattle.tcl_lang.specs.declared.range.RngPred.TheViews as range_pred
 use Rattle.tcl_lang.specs.declared.range.RngPred.TheVariants as range_roll
 use Rattle.tcl_circuits.specs.Wires.{Wire}
-use Rattle.tcl_circuits.specs.Circuits.{less, equal, negated}
 use Rattle.tcl_circuits.proofs.Loops.{less_begins, equal_begins}
-use Rattle.tcl_words.specs.Ranges.{term_lits, compared_lits, both_sides, and_lit, or_lit, and_lits, or_lits, pred_step, pred_lit}
+use Rattle.tcl_words.specs.Ranges.{term_lits, compared_lits, both_sides, pred_step, pred_lit}
 use Rattle.tcl_words.proofs.RangeParts.{term_begins}
 
 pub compared_begins : (op : CmpOp) (gates : List Gate) (signed : Bool) (xs ys : List ℕ) → Begins gates (compared_lits gates op signed xs ys).gates

@@ -1,25 +1,21 @@
 -- The circuits of range predicates show their truth.
-use Rattle.std.proofs.Common.{◌≡◌, ℕ, Bool, true, false, not, ◌&&◌, ◌||◌, cond, List, [], ◌∷◌, ◌++◌, length, Option, Some, None, refl, sym, ◌∙◌, ap, ap₂, subst, arith, ℤ, int_le, int_lt, is_some}
+use Rattle.std.proofs.Common.{◌≡◌, ℕ, Bool, true, false, not, ◌&&◌, ◌||◌, List, ◌++◌, Option, Some, None, refl, sym, ◌∙◌, ap₂, subst, arith, ℤ, int_le, int_lt, is_some}
 use Rattle.std.proofs.lemmas.Int.{ints}
 use Rattle.std.proofs.lemmas.Bool.{and_parts}
 use Rattle.std.specs.Ordering.{int_eq}
-use Rattle.tcl_cnf.specs.Literal.{neg}
 use Rattle.tcl_gates.specs.declared.gate.Gate.{Gate}
-use Rattle.tcl_gates.specs.declared.gate.Gate.TheVariants as Gate
 use Rattle.tcl_lang.specs.declared.ty.Ty.{Ty}
-use Rattle.tcl_lang.specs.declared.ty.Word.{Word}
 use Rattle.tcl_lang.specs.declared.instr.Atom.{Atom}
 use Rattle.tcl_lang.specs.declared.range.CmpOp.{CmpOp}
 use Rattle.tcl_lang.specs.declared.range.CmpOp.TheVariants.{Eq, Ne, Lt, Le, Gt, Ge}
 use Rattle.tcl_lang.specs.declared.range.RngTerm.{RngTerm}
-use Rattle.tcl_lang.specs.declared.range.RngPred.{RngPred, RngPred-F, fold-RngPred, roll-RngPred, map-RngPred, ind-RngPred}
+use Rattle.tcl_lang.specs.declared.range.RngPred.{RngPred, RngPred-F, roll-RngPred, map-RngPred, ind-RngPred}
 use Rattle.tcl_lang.specs.declared.range.RngPred.TheFolds.{fold-roll-RngPred}
 use Rattle.tcl_lang.specs.declared.range.RngPred.TheOpen as layer
 use Rattle.tcl_lang.specs.Shape.{is_range_term, is_range_step, is_range}
 use Rattle.tcl_lang.specs.Names.{term_atoms, range_atoms_step, range_atoms}
 use Rattle.tcl_lang.specs.Range.{compares, range_word, truth_step, range_truth}
 use Rattle.tcl_lang.specs.Typing.{common_type, range_type, sides_step, sides_agree}
-use Rattle.tcl_bits.specs.Value.{word_value}
 use Rattle.tcl_bits.proofs.Comparisons.{less_law, equal_law}
 use Rattle.tcl_circuits.proofs.Bits.{and_shows}
 use Rattle.tcl_circuits.proofs.Chains.{ShowsWire, equal_shows, less_shows, negated_shows}

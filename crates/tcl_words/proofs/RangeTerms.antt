@@ -1,5 +1,5 @@
 -- The circuits of range terms show the values of the terms.
-use Rattle.std.proofs.Common.{◌≡◌, ℕ, ◌+◌, ◌*◌, ◌^◌, ◌<◌, ◌≤◌, Bool, true, false, not, ◌&&◌, ◌||◌, cond, List, [], ◌∷◌, ◌++◌, length, map, Option, Some, None, slice_get, zero, suc, refl, sym, ◌∙◌, ap, ap₂, subst, arith, ℤ, pos, neg_ℤ, unsigned_abs, ◌+ℤ◌, ◌-ℤ◌, ◌*ℤ◌, bit_and, bit_or, bit_xor, is_some}
+use Rattle.std.proofs.Common.{◌≡◌, ℕ, ◌+◌, ◌^◌, ◌<◌, Bool, true, false, ◌&&◌, ◌||◌, cond, List, [], ◌∷◌, ◌++◌, length, map, Option, Some, None, slice_get, zero, suc, refl, sym, ◌∙◌, ap, ap₂, subst, arith, ℤ, pos, neg_ℤ, unsigned_abs, bit_and, bit_or, bit_xor, is_some}
 use Rattle.std.specs.Int.{int_rem_euclid}
 use Rattle.std.proofs.lemmas.Bool.{and_parts}
 use Rattle.tcl_num.specs.Range.{wrapped}
@@ -12,17 +12,17 @@ use Rattle.tcl_lang.specs.declared.instr.Atom.{Atom}
 use Rattle.tcl_lang.specs.declared.instr.Atom.TheVariants.{Var, Lit}
 use Rattle.tcl_lang.specs.declared.range.RngOp.{RngOp}
 use Rattle.tcl_lang.specs.declared.range.RngOp.TheVariants.{Add, Sub, Mul, And, Or, Xor}
-use Rattle.tcl_lang.specs.declared.range.RngTerm.{RngTerm, RngTerm-F, fold-RngTerm, roll-RngTerm, map-RngTerm, ind-RngTerm}
+use Rattle.tcl_lang.specs.declared.range.RngTerm.{RngTerm, RngTerm-F, roll-RngTerm, map-RngTerm, ind-RngTerm}
 use Rattle.tcl_lang.specs.declared.range.RngTerm.TheFolds.{fold-roll-RngTerm}
 use Rattle.tcl_lang.specs.declared.range.RngTerm.TheOpen as layer
-use Rattle.tcl_lang.specs.Types.{IsTy, is_ty, same_type, wrap_of, is_in_type, InType}
+use Rattle.tcl_lang.specs.Types.{IsTy, is_ty, same_type, wrap_of, InType}
 use Rattle.tcl_lang.specs.Store.{word_at, word_of}
-use Rattle.tcl_lang.specs.Shape.{is_atom, is_range_term_step, is_range_term, is_literal}
+use Rattle.tcl_lang.specs.Shape.{is_atom, is_range_term_step, is_range_term}
 use Rattle.tcl_lang.specs.Names.{term_atoms_step, term_atoms}
 use Rattle.tcl_lang.specs.Range.{wrapped_word, combined, flipped, word_step, range_word}
 use Rattle.tcl_lang.specs.Typing.{type_at, atom_type, common_type, type_step, range_type, is_sound_literal}
 use Rattle.tcl_lang.proofs.TypedStores.{same_type_is, is_ty_sound, is_in_type_sound}
-use Rattle.tcl_bits.specs.Value.{number_bits, word_value}
+use Rattle.tcl_bits.specs.Value.{number_bits}
 use Rattle.tcl_bits.specs.Circuit.{xor_bit, met_bits, negation_bits, flipped_bits, extended_bits}
 use Rattle.tcl_bits.proofs.Cuts.{length-number_bits}
 use Rattle.tcl_bits.proofs.Sums.{length-negation_bits}

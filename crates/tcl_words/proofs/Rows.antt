@@ -1,14 +1,13 @@
 -- The bits of the results of each instruction are those of the values that it computes.
-use Rattle.std.proofs.Common.{◌≡◌, ℕ, ◌+◌, ◌-◌, ◌^◌, ◌<◌, ◌≤◌, Bool, true, false, not, ◌&&◌, ◌||◌, nat_lt, List, [], ◌∷◌, length, refl, sym, ◌∙◌, ap, subst, arith, ℤ, pos, ◌+ℤ◌, ◌-ℤ◌, bit_and, bit_or, bit_xor}
+use Rattle.std.proofs.Common.{◌≡◌, ℕ, ◌<◌, ◌≤◌, Bool, true, false, ◌&&◌, ◌||◌, nat_lt, List, [], ◌∷◌, refl, ap, subst, arith, ℤ, pos, ◌+ℤ◌, ◌-ℤ◌, bit_and, bit_or, bit_xor}
 use Rattle.std.proofs.lemmas.Int.{ints}
 use Rattle.std.proofs.lemmas.Bool.{ltb-true, and_parts}
 use Rattle.tcl_lang.specs.declared.ty.Ty.{Ty}
 use Rattle.tcl_lang.specs.declared.instr.Op.{Op}
 use Rattle.tcl_lang.specs.declared.instr.Op.TheVariants.{Mov, Add, Adds, Adc, Adcs, Sub, Subb, Sbb, Sbbs, Mul, Mull, Mulj, Shl, Split, Join, Cast, Vpc, Cmov, And, Or, Xor, Not, Nondet}
-use Rattle.tcl_lang.specs.Types.{IsTy, least_width, wrap_of, bit_type}
+use Rattle.tcl_lang.specs.Types.{IsTy, least_width, wrap_of}
 use Rattle.tcl_lang.specs.Typing.{allows, allows_amount}
 use Rattle.tcl_lang.specs.Results.{parts_of, borrow_of, row_results, result_types}
-use Rattle.tcl_bits.specs.Value.{bit_value, unsigned_value}
 use Rattle.tcl_bits.specs.Circuit.{xor_bit, met_bits}
 use Rattle.tcl_bits.proofs.Bitwise.{and_law, or_law, xor_law, length-met_bits}
 use Rattle.tcl_words.proofs.Values.{bit_is, sum_is, difference_is, carry_words, borrow_words, mull_words, split_words, full_is, product_is, shift_is, join_is, cast_is, met_is, flip_is, choice_is, same_length}

@@ -1,17 +1,14 @@
 -- The value laws of instructions, exactness conditions and range lines: what their literals show, where those of the operands show a store.
-use Rattle.std.proofs.Common.{◌≡◌, ◌≢◌, ℕ, zero, suc, ◌+◌, ◌<◌, ◌≤◌, Bool, true, false, not, ◌||◌, List, [], ◌∷◌, ◌++◌, length, map, get_or, set, Option, Some, None, slice_get, refl, sym, ◌∙◌, ap, ap₂, subst, arith, ℤ, pos}
+use Rattle.std.proofs.Common.{◌≡◌, ℕ, ◌+◌, ◌<◌, ◌≤◌, Bool, true, false, not, ◌||◌, List, [], ◌∷◌, length, map, get_or, set, Option, Some, slice_get, refl, sym, ◌∙◌, ap, ap₂, subst, arith, ℤ}
 use Rattle.std.proofs.lemmas.List.{length-set, get_or-set_same, get_or-set_other}
 use Rattle.tcl_gates.specs.declared.gate.Gate.{Gate}
-use Rattle.tcl_gates.specs.Meaning.{lit_bit, word_bits, Shows}
+use Rattle.tcl_gates.specs.Meaning.{lit_bit, word_bits}
 use Rattle.tcl_gates.proofs.Shown.{shows_own, shows_bits, shows_length, shows_within}
 use Rattle.tcl_bits.specs.Value.{word_value}
-use Rattle.tcl_circuits.specs.Wires.{Wire}
 use Rattle.tcl_lang.specs.declared.ty.Ty.{Ty}
 use Rattle.tcl_lang.specs.declared.ty.Word.{Word}
 use Rattle.tcl_lang.specs.declared.instr.Atom.{Atom}
-use Rattle.tcl_lang.specs.declared.instr.Atom.TheVariants.{Var, Lit}
-use Rattle.tcl_lang.specs.declared.instr.Op.{Op}
-use Rattle.tcl_lang.specs.declared.instr.Op.TheVariants.{Nondet}
+use Rattle.tcl_lang.specs.declared.instr.Atom.TheVariants.{Var}
 use Rattle.tcl_lang.specs.declared.instr.Instr.{Instr}
 use Rattle.tcl_lang.specs.declared.range.RngPred.{RngPred}
 use Rattle.tcl_lang.specs.declared.variable.Variable.{Variable}
@@ -21,25 +18,23 @@ use Rattle.tcl_lang.specs.Shape.{is_range}
 use Rattle.tcl_lang.specs.Store.{word_at}
 use Rattle.tcl_lang.specs.Names.{range_atoms}
 use Rattle.tcl_lang.specs.Line.{values_of}
-use Rattle.tcl_lang.specs.Instruction.{nth}
-use Rattle.tcl_lang.specs.Results.{row_results, results_of, result_types}
-use Rattle.tcl_lang.specs.Exactness.{has_condition, exact_value, is_exact}
+use Rattle.tcl_lang.specs.Results.{results_of, result_types}
+use Rattle.tcl_lang.specs.Exactness.{has_condition, is_exact}
 use Rattle.tcl_lang.specs.Range.{range_truth}
 use Rattle.tcl_lang.specs.Versions.{numbers_from}
-use Rattle.tcl_words.specs.Instructions.{result_lits}
-use Rattle.tcl_words.specs.Words.{IsWord, AreWords, ShowsAll, ShowsOutcome}
+use Rattle.tcl_words.specs.Words.{IsWord, AreWords, ShowsAll}
 use Rattle.tcl_words.specs.Words.AreWords.{none as no_words, word as one_word}
 use Rattle.tcl_words.specs.Words.ShowsAll.{none as no_lists, word as one_list}
 use Rattle.tcl_lang.specs.Values.{types_of}
 use Rattle.tcl_words.specs.Ranges.{atom_lits, atom_ty, pred_lit}
-use Rattle.tcl_words.specs.Steps.{operand_lits, first_type, instruction_lits, condition_wire, set_words}
-use Rattle.tcl_words.specs.Stores.{ShowsWord, ShowsVariable, ShowsOperands, ShowWords}
+use Rattle.tcl_words.specs.Steps.{first_type, instruction_lits, condition_wire, set_words}
+use Rattle.tcl_words.specs.Stores.{ShowsOperands, ShowWords}
 use Rattle.tcl_words.proofs.Outcomes.{outcome_shows}
 use Rattle.tcl_words.proofs.Rows.{results_are}
 use Rattle.tcl_words.proofs.ExactConditions.{exactness_shows, exactness_is}
 use Rattle.tcl_words.proofs.RangeTerms.{Setting, VarShown, AtomsShown}
 use Rattle.tcl_words.proofs.RangePreds.{pred_shows}
-use Rattle.tcl_words.proofs.OperandWords.{AreTypedOperands, OperandsShown, operands_shown}
+use Rattle.tcl_words.proofs.OperandWords.{AreTypedOperands, operands_shown}
 
 abbrev pub setting : List (List ℕ) → List Variable → List (Option Ty) → List Word → Setting
 setting words variables types store = record { words = words; variables = types_of variables; types = types; store = store }

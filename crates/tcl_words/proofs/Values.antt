@@ -1,5 +1,5 @@
 -- The bits of the results are those of the values that the instruction computes.
-use Rattle.std.proofs.Common.{◌≡◌, ℕ, ◌+◌, ◌-◌, ◌*◌, ◌^◌, ◌<◌, ◌≤◌, Bool, true, false, not, ◌&&◌, ◌||◌, ◌==◌, List, [], ◌∷◌, ◌++◌, length, take, drop, refl, sym, ◌∙◌, ap, ap₂, subst, arith, cond, unsigned_abs, length-take, length-drop, length-append, ℤ, pos, neg_ℤ, ◌+ℤ◌, ◌-ℤ◌, ◌*ℤ◌}
+use Rattle.std.proofs.Common.{◌≡◌, ℕ, ◌+◌, ◌-◌, ◌*◌, ◌^◌, ◌<◌, Bool, true, false, not, ◌==◌, List, [], ◌∷◌, ◌++◌, length, take, drop, refl, sym, ◌∙◌, ap, ap₂, subst, arith, cond, unsigned_abs, length-take, length-drop, length-append, ℤ, pos, neg_ℤ, ◌+ℤ◌, ◌-ℤ◌, ◌*ℤ◌}
 use Rattle.std.proofs.lemmas.Int.{ints}
 use Rattle.std.specs.Int.{int_div_euclid, int_rem_euclid}
 use Rattle.tcl_num.specs.Range.{wrapped}
@@ -16,7 +16,7 @@ use Rattle.tcl_bits.specs.Value.{bit_value, unsigned_value, word_value}
 use Rattle.tcl_bits.specs.Circuit.{sum_bits, carry_out, difference_bits, borrow_out, product_bits, extended_bits, shifted_bits, flipped_bits, chosen_bits}
 use Rattle.tcl_bits.specs.Exactness.{full_product}
 use Rattle.tcl_bits.proofs.Sums.{adder_law, length-sum_bits, length-difference_bits, difference_law, length-flipped}
-use Rattle.tcl_bits.proofs.Words.{sum_word, difference_word, product_word, flipped_word, pattern_law, pattern_word}
+use Rattle.tcl_bits.proofs.Words.{sum_word, difference_word, product_word, pattern_law, pattern_word}
 use Rattle.tcl_bits.proofs.Products.{length-product_bits}
 use Rattle.tcl_bits.proofs.ExactResults.{product_full}
 use Rattle.tcl_bits.proofs.Cuts.{take_below}

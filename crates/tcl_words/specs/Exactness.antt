@@ -3,7 +3,6 @@ use Rattle.std.specs.Prelude.{ℕ, ◌+◌, max, Bool, true, false, List, length
 use Rattle.tcl_gates.specs.declared.gate.Gate.{Gate}
 use Rattle.tcl_lang.specs.declared.ty.Ty.{Ty}
 use Rattle.tcl_lang.specs.declared.instr.Op.{Op}
-use Rattle.tcl_lang.specs.declared.instr.Op.TheVariants as Op
 use Rattle.tcl_bits.specs.Exactness.{sum_fits, difference_fits, product_fits, shift_fits, cast_fits}
 use Rattle.tcl_circuits.specs.Circuits.{wire, wires, adder, difference, extended, shifted, in_range}
 use Rattle.tcl_circuits.specs.Wires.{Wire, Wires, Carried}

@@ -1,5 +1,5 @@
 -- The circuit of each instruction, row by row: the literals of its results, and the bits that they show.
-use Rattle.std.specs.Prelude.{ℕ, ◌*◌, Bool, true, false, ◌&&◌, ◌||◌, List, [], ◌∷◌, ◌++◌, length, take, drop, map}
+use Rattle.std.specs.Prelude.{ℕ, ◌*◌, Bool, false, ◌&&◌, ◌||◌, List, [], ◌∷◌, ◌++◌, length, take, drop, map}
 use Rattle.tcl_cnf.specs.Literal.{neg}
 use Rattle.tcl_gates.specs.declared.gate.Gate.{Gate}
 use Rattle.tcl_lang.specs.declared.ty.Ty.{Ty}

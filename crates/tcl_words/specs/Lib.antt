@@ -1,3 +1,4 @@
+pub mod Chains
 pub mod Instructions
 pub mod Exactness
 pub mod Ranges

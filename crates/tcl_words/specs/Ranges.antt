@@ -1,8 +1,7 @@
 -- The circuits of range terms and predicates, and the bits that terms show.
-use Rattle.std.specs.Prelude.{ℕ, Bool, true, false, not, ◌&&◌, ◌||◌, List, [], ◌∷◌, ◌++◌, length, map, slice_index_or}
+use Rattle.std.specs.Prelude.{ℕ, Bool, false, ◌&&◌, ◌||◌, List, [], ◌∷◌, ◌++◌, map, slice_index_or}
 use Rattle.tcl_cnf.specs.Literal.{neg}
 use Rattle.tcl_gates.specs.declared.gate.Gate.{Gate}
-use Rattle.tcl_gates.specs.declared.gate.Gate.TheVariants as Gate
 use Rattle.tcl_lang.specs.declared.ty.Ty.{Ty}
 use Rattle.tcl_lang.specs.declared.instr.Atom.{Atom}
 use Rattle.tcl_lang.specs.declared.instr.Atom.TheVariants.{Var, Lit}

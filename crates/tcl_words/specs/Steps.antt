@@ -1,5 +1,5 @@
 -- The instructions of a versioned program as gates: operands are looked up, and the literals of results are set.
-use Rattle.std.specs.Prelude.{◌≡◌, ℕ, false, List, [], ◌∷◌, length, map, slice_get, slice_index_or, slice_set, Option, Some, None}
+use Rattle.std.specs.Prelude.{ℕ, false, List, [], ◌∷◌, map, slice_index_or, slice_set, Option, Some, None}
 use Rattle.tcl_gates.specs.declared.gate.Gate.{Gate}
 use Rattle.tcl_circuits.specs.Wires.{Wire}
 use Rattle.tcl_circuits.specs.Circuits.{wire}

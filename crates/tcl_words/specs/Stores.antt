@@ -1,8 +1,8 @@
 -- Stores whose words literals show.
-use Rattle.std.specs.Prelude.{◌≡◌, ℕ, ℤ, Bool, List, [], ◌∷◌, length, map, slice_get, slice_index_or, Some}
+use Rattle.std.specs.Prelude.{◌≡◌, ℕ, ℤ, Bool, List, [], ◌∷◌, length, map, slice_get, Some}
 use Rattle.tcl_bits.specs.Value.{word_value}
 use Rattle.tcl_gates.specs.declared.gate.Gate.{Gate}
-use Rattle.tcl_gates.specs.Meaning.{lit_bit, word_bits, AreWithin}
+use Rattle.tcl_gates.specs.Meaning.{word_bits, AreWithin}
 use Rattle.tcl_lang.specs.declared.ty.Ty.{Ty}
 use Rattle.tcl_lang.specs.declared.ty.Word.{Word}
 use Rattle.tcl_lang.specs.declared.instr.Atom.{Atom}

@@ -1,9 +1,9 @@
 -- Words of literals that stand for the values of typed words.
-use Rattle.std.specs.Prelude.{◌≡◌, ℕ, ◌<◌, ℤ, Bool, List, [], ◌∷◌, length}
+use Rattle.std.specs.Prelude.{◌≡◌, ℕ, ℤ, Bool, List, [], ◌∷◌, length}
 use Rattle.tcl_gates.specs.declared.gate.Gate.{Gate}
 use Rattle.tcl_lang.specs.declared.ty.Ty.{Ty}
 use Rattle.tcl_lang.specs.declared.instr.Op.{Op}
-use Rattle.tcl_lang.specs.declared.instr.Op.TheVariants.{Mov, Add, Adds, Adc, Adcs, Sub, Subb, Sbb, Sbbs, Mul, Mull, Mulj, Shl, Split, Join, Cast, Vpc, Cmov, And, Or, Xor, Not, Nondet}
+use Rattle.tcl_lang.specs.declared.instr.Op.TheVariants.{Mov, Adc, Adcs, Sbb, Sbbs, Shl, Split, Join, Cast, Vpc, Cmov, Not, Nondet}
 use Rattle.tcl_lang.specs.Types.{bit_type, unsigned_of}
 use Rattle.tcl_bits.specs.Value.{word_value}
 use Rattle.tcl_gates.specs.Meaning.{Shows, Begins}

@@ -2,22 +2,25 @@
 
 ghost use Rattle.std.specs.Prelude.{◌≡◌, ◌+◌, ◌/◌, ◌≤◌, ◌<◌, IfOk, OnOk, OnErr, length, max};
 ghost use Rattle.tcl_gates.specs.Meaning.{AreWithin, IsPart};
-ghost use Rattle.tcl_circuits.specs.Circuits.{adder, difference, extended, shifted, in_range, wire};
+ghost use Rattle.tcl_circuits.specs.Circuits.{extended, shifted, in_range, wire};
+ghost use Rattle.tcl_words.specs.Chains as chains;
 ghost use Rattle.tcl_words.specs.Instructions.{wide_product};
 ghost use Rattle.tcl_words.specs.Exactness.{plain, fits, exact_lit};
 
+use crate::chain::{Chain, chained};
 use crate::results::{first_of, wide_product};
 use std::alloc::{AllocError, Global};
-use tcl_circuits::{Lits, adder, difference, extend, in_range, shift};
+use tcl_circuits::{Lits, extend, in_range, shift};
 use tcl_cnf::Lit;
 use tcl_gates::Gates;
 use tcl_lang::{Op, Ty};
 
-/// Whether a sum with carry fits: two bits more.
-#[tactic(auto, using(tcl_gates::proofs::Shown::part_none, crate::proofs::Parts::sum_range_begins, tcl_circuits::proofs::Within::within_extended))]
-fn sum_fits(
+/// Whether a sum with carry or a difference with borrow fits: two bits more.
+#[tactic(auto, using(tcl_gates::proofs::Shown::part_none, crate::proofs::Parts::chain_range_begins, tcl_circuits::proofs::Within::within_extended))]
+fn chain_fits(
     alloc: Global,
     gates: &mut Gates,
+    chain: Chain,
     signed: bool,
     a: &Lits,
     b: &Lits,
@@ -27,42 +30,15 @@ fn sum_fits(
     requires second { AreWithin (length gates.old) b.now }
     requires third { carry / 2 ≤ length gates.old }
     requires narrow { length a.now ≤ 64 }
-    ensures made { OnOk result (gates.new ≡ (fits signed (length a.now) (plain (adder gates.old (extended signed (length a.now + 2) a.now) (extended signed (length a.now + 2) b.now) carry))).gates) }
-    ensures lit { IfOk result (λ lit. lit ≡ (fits signed (length a.now) (plain (adder gates.old (extended signed (length a.now + 2) a.now) (extended signed (length a.now + 2) b.now) carry))).lit) }
+    ensures made { OnOk result (gates.new ≡ (fits signed (length a.now) (plain (chains.chained chain gates.old (extended signed (length a.now + 2) a.now) (extended signed (length a.now + 2) b.now) carry))).gates) }
+    ensures lit { IfOk result (λ lit. lit ≡ (fits signed (length a.now) (plain (chains.chained chain gates.old (extended signed (length a.now + 2) a.now) (extended signed (length a.now + 2) b.now) carry))).lit) }
     ensures within { IfOk result (λ lit. lit / 2 ≤ length gates.new) }
-    ensures part { OnErr result (IsPart gates.old gates.new (fits signed (length a.now) (plain (adder gates.old (extended signed (length a.now + 2) a.now) (extended signed (length a.now + 2) b.now) carry))).gates) }
+    ensures part { OnErr result (IsPart gates.old gates.new (fits signed (length a.now) (plain (chains.chained chain gates.old (extended signed (length a.now + 2) a.now) (extended signed (length a.now + 2) b.now) carry))).gates) }
 {
     let width = a.len() as u32;
     let x = extend(alloc, a, signed, width + 2)?;
     let y = extend(alloc, b, signed, width + 2)?;
-    let sum = adder(alloc, gates, &x, &y, carry)?;
-    let lit = in_range(alloc, gates, &sum.word, signed, width)?;
-    Ok(lit)
-}
-
-/// Whether a difference with borrow fits: two bits more.
-#[tactic(auto, using(tcl_gates::proofs::Shown::part_none, crate::proofs::Parts::difference_range_begins, tcl_circuits::proofs::Within::within_extended))]
-fn difference_fits(
-    alloc: Global,
-    gates: &mut Gates,
-    signed: bool,
-    a: &Lits,
-    b: &Lits,
-    borrow: Lit,
-) -> Result<Lit, AllocError>
-    requires first { AreWithin (length gates.old) a.now }
-    requires second { AreWithin (length gates.old) b.now }
-    requires third { borrow / 2 ≤ length gates.old }
-    requires narrow { length a.now ≤ 64 }
-    ensures made { OnOk result (gates.new ≡ (fits signed (length a.now) (plain (difference gates.old (extended signed (length a.now + 2) a.now) (extended signed (length a.now + 2) b.now) borrow))).gates) }
-    ensures lit { IfOk result (λ lit. lit ≡ (fits signed (length a.now) (plain (difference gates.old (extended signed (length a.now + 2) a.now) (extended signed (length a.now + 2) b.now) borrow))).lit) }
-    ensures within { IfOk result (λ lit. lit / 2 ≤ length gates.new) }
-    ensures part { OnErr result (IsPart gates.old gates.new (fits signed (length a.now) (plain (difference gates.old (extended signed (length a.now + 2) a.now) (extended signed (length a.now + 2) b.now) borrow))).gates) }
-{
-    let width = a.len() as u32;
-    let x = extend(alloc, a, signed, width + 2)?;
-    let y = extend(alloc, b, signed, width + 2)?;
-    let sum = difference(alloc, gates, &x, &y, borrow)?;
+    let sum = chained(alloc, gates, chain, &x, &y, carry)?;
     let lit = in_range(alloc, gates, &sum.word, signed, width)?;
     Ok(lit)
 }
@@ -161,10 +137,34 @@ pub(crate) fn condition_lit(
     ensures part { OnErr result (IsPart gates.old gates.new (exact_lit gates.old op ty from amount a.now b.now c.now).gates) }
 {
     match op {
-        Op::Add => sum_fits(alloc, gates, ty.signed, a, b, Lit::from_number(1)),
-        Op::Adc => sum_fits(alloc, gates, ty.signed, a, b, first_of(c)),
-        Op::Sub => difference_fits(alloc, gates, ty.signed, a, b, Lit::from_number(1)),
-        Op::Sbb => difference_fits(alloc, gates, ty.signed, a, b, first_of(c)),
+        Op::Add => chain_fits(
+            alloc,
+            gates,
+            Chain::Sum,
+            ty.signed,
+            a,
+            b,
+            Lit::from_number(1),
+        ),
+        Op::Adc => chain_fits(alloc, gates, Chain::Sum, ty.signed, a, b, first_of(c)),
+        Op::Sub => chain_fits(
+            alloc,
+            gates,
+            Chain::Difference,
+            ty.signed,
+            a,
+            b,
+            Lit::from_number(1),
+        ),
+        Op::Sbb => chain_fits(
+            alloc,
+            gates,
+            Chain::Difference,
+            ty.signed,
+            a,
+            b,
+            first_of(c),
+        ),
         Op::Mul => product_fits(alloc, gates, ty.signed, a, b),
         Op::Shl => shift_fits(alloc, gates, ty.signed, amount, a),
         Op::Vpc => cast_fits(alloc, gates, from.signed, ty.signed, ty.width, a),

@@ -3,6 +3,7 @@
 #![tactic(auto)]
 
 mod calls;
+mod chain;
 mod conditions;
 mod operands;
 mod predicates;

@@ -3,14 +3,16 @@
 ghost use Rattle.std.specs.Prelude.{◌≡◌, ◌+◌, ◌-◌, ◌/◌, ◌<◌, ◌≤◌, IfOk, OnOk, OnErr, length, take, drop, map, false, true, List, [], ◌∷◌, ◌++◌};
 ghost use Rattle.tcl_cnf.specs.Literal.{neg};
 ghost use Rattle.tcl_gates.specs.Meaning.{AreWithin, IsPart};
-ghost use Rattle.tcl_circuits.specs.Circuits.{adder, difference, product, choose, bitwise_and, bitwise_or, bitwise_xor, extended, shifted};
+ghost use Rattle.tcl_circuits.specs.Circuits.{product, choose, bitwise_and, bitwise_or, bitwise_xor, extended, shifted};
+ghost use Rattle.tcl_words.specs.Chains as chains;
 ghost use Rattle.tcl_words.specs.Instructions.{sum_alone, carry_first, one_word, high_first, wide_product, first_lit, result_lits};
 ghost use Rattle.tcl_words.specs.Listed.{listed};
 
+use crate::chain::{Chain, chained};
 use std::alloc::{AllocError, Global};
 use tcl_circuits::{
-    Lits, adder, bitwise_and, bitwise_or, bitwise_xor, choose, difference, extend, high_part, join,
-    low_part, negated_word, product, shift,
+    Lits, bitwise_and, bitwise_or, bitwise_xor, choose, extend, high_part, join, low_part,
+    negated_word, product, shift,
 };
 use tcl_cnf::Lit;
 use tcl_gates::Gates;
@@ -43,10 +45,11 @@ pub(crate) fn first_of(a: &Lits) -> Lit
     }
 }
 
-/// The sum of two words and a carry.
-fn plain_sum(
+/// The sum or the difference of two words.
+fn chain_alone(
     alloc: Global,
     gates: &mut Gates,
+    chain: Chain,
     a: &Lits,
     b: &Lits,
     carry: Lit,
@@ -54,19 +57,20 @@ fn plain_sum(
     requires first { AreWithin (length gates.old) a.now }
     requires second { AreWithin (length gates.old) b.now }
     requires third { carry / 2 ≤ length gates.old }
-    ensures made { OnOk result (gates.new ≡ (sum_alone (adder gates.old a.now b.now carry)).gates) }
-    ensures words { IfOk result (λ words. listed words ≡ (sum_alone (adder gates.old a.now b.now carry)).words) }
-    ensures part { OnErr result (IsPart gates.old gates.new (sum_alone (adder gates.old a.now b.now carry)).gates) }
+    ensures made { OnOk result (gates.new ≡ (sum_alone (chains.chained chain gates.old a.now b.now carry)).gates) }
+    ensures words { IfOk result (λ words. listed words ≡ (sum_alone (chains.chained chain gates.old a.now b.now carry)).words) }
+    ensures part { OnErr result (IsPart gates.old gates.new (sum_alone (chains.chained chain gates.old a.now b.now carry)).gates) }
 {
-    let sum = adder(alloc, gates, a, b, carry)?;
+    let sum = chained(alloc, gates, chain, a, b, carry)?;
     Ok(ResultWords::One(sum.word))
 }
 
-/// The carry of such a sum, and the sum.
-#[tactic(auto, using(tcl_gates::proofs::Shown::part_all, tcl_circuits::proofs::Adders::adder_begins))]
-fn carry_sum(
+/// The carry out of such a sum or the borrow out of such a difference, and the word.
+#[tactic(auto, using(tcl_gates::proofs::Shown::part_all, crate::proofs::Parts::chained_begins))]
+fn carry_and_chain(
     alloc: Global,
     gates: &mut Gates,
+    chain: Chain,
     a: &Lits,
     b: &Lits,
     carry: Lit,
@@ -74,51 +78,11 @@ fn carry_sum(
     requires first { AreWithin (length gates.old) a.now }
     requires second { AreWithin (length gates.old) b.now }
     requires third { carry / 2 ≤ length gates.old }
-    ensures made { OnOk result (gates.new ≡ (carry_first (adder gates.old a.now b.now carry)).gates) }
-    ensures words { IfOk result (λ words. listed words ≡ (carry_first (adder gates.old a.now b.now carry)).words) }
-    ensures part { OnErr result (IsPart gates.old gates.new (carry_first (adder gates.old a.now b.now carry)).gates) }
+    ensures made { OnOk result (gates.new ≡ (carry_first (chains.chained chain gates.old a.now b.now carry)).gates) }
+    ensures words { IfOk result (λ words. listed words ≡ (carry_first (chains.chained chain gates.old a.now b.now carry)).words) }
+    ensures part { OnErr result (IsPart gates.old gates.new (carry_first (chains.chained chain gates.old a.now b.now carry)).gates) }
 {
-    let sum = adder(alloc, gates, a, b, carry)?;
-    let high = bit_word(alloc, sum.carry)?;
-    Ok(ResultWords::Two(high, sum.word))
-}
-
-/// The difference of two words and a borrow.
-fn plain_difference(
-    alloc: Global,
-    gates: &mut Gates,
-    a: &Lits,
-    b: &Lits,
-    borrow: Lit,
-) -> Result<ResultWords, AllocError>
-    requires first { AreWithin (length gates.old) a.now }
-    requires second { AreWithin (length gates.old) b.now }
-    requires third { borrow / 2 ≤ length gates.old }
-    ensures made { OnOk result (gates.new ≡ (sum_alone (difference gates.old a.now b.now borrow)).gates) }
-    ensures words { IfOk result (λ words. listed words ≡ (sum_alone (difference gates.old a.now b.now borrow)).words) }
-    ensures part { OnErr result (IsPart gates.old gates.new (sum_alone (difference gates.old a.now b.now borrow)).gates) }
-{
-    let sum = difference(alloc, gates, a, b, borrow)?;
-    Ok(ResultWords::One(sum.word))
-}
-
-/// The borrow of such a difference, and the difference.
-#[tactic(auto, using(tcl_gates::proofs::Shown::part_all, tcl_circuits::proofs::Loops::difference_begins))]
-fn borrow_difference(
-    alloc: Global,
-    gates: &mut Gates,
-    a: &Lits,
-    b: &Lits,
-    borrow: Lit,
-) -> Result<ResultWords, AllocError>
-    requires first { AreWithin (length gates.old) a.now }
-    requires second { AreWithin (length gates.old) b.now }
-    requires third { borrow / 2 ≤ length gates.old }
-    ensures made { OnOk result (gates.new ≡ (carry_first (difference gates.old a.now b.now borrow)).gates) }
-    ensures words { IfOk result (λ words. listed words ≡ (carry_first (difference gates.old a.now b.now borrow)).words) }
-    ensures part { OnErr result (IsPart gates.old gates.new (carry_first (difference gates.old a.now b.now borrow)).gates) }
-{
-    let sum = difference(alloc, gates, a, b, borrow)?;
+    let sum = chained(alloc, gates, chain, a, b, carry)?;
     let high = bit_word(alloc, sum.carry)?;
     Ok(ResultWords::Two(high, sum.word))
 }
@@ -341,14 +305,14 @@ pub(crate) fn result_words(
 {
     match op {
         Op::Mov => same_word(alloc, a),
-        Op::Add => plain_sum(alloc, gates, a, b, Lit::from_number(1)),
-        Op::Adds => carry_sum(alloc, gates, a, b, Lit::from_number(1)),
-        Op::Adc => plain_sum(alloc, gates, a, b, first_of(c)),
-        Op::Adcs => carry_sum(alloc, gates, a, b, first_of(c)),
-        Op::Sub => plain_difference(alloc, gates, a, b, Lit::from_number(1)),
-        Op::Subb => borrow_difference(alloc, gates, a, b, Lit::from_number(1)),
-        Op::Sbb => plain_difference(alloc, gates, a, b, first_of(c)),
-        Op::Sbbs => borrow_difference(alloc, gates, a, b, first_of(c)),
+        Op::Add => chain_alone(alloc, gates, Chain::Sum, a, b, Lit::from_number(1)),
+        Op::Adds => carry_and_chain(alloc, gates, Chain::Sum, a, b, Lit::from_number(1)),
+        Op::Adc => chain_alone(alloc, gates, Chain::Sum, a, b, first_of(c)),
+        Op::Adcs => carry_and_chain(alloc, gates, Chain::Sum, a, b, first_of(c)),
+        Op::Sub => chain_alone(alloc, gates, Chain::Difference, a, b, Lit::from_number(1)),
+        Op::Subb => carry_and_chain(alloc, gates, Chain::Difference, a, b, Lit::from_number(1)),
+        Op::Sbb => chain_alone(alloc, gates, Chain::Difference, a, b, first_of(c)),
+        Op::Sbbs => carry_and_chain(alloc, gates, Chain::Difference, a, b, first_of(c)),
         Op::Mul => plain_product(alloc, gates, a, b),
         Op::Mull => product_parts(alloc, gates, ty, a, b),
         Op::Mulj => whole_product(alloc, gates, ty.signed, a, b),

@@ -1,6 +1,5 @@
-use Rattle.std.proofs.Common.{rules, length, ◌≡◌}
+use Rattle.std.proofs.Common.{rules, ◌≡◌}
 use Rattle.tcl_lang.specs.Values.{types_of}
-use Rattle.tcl_words.specs.Ranges.{AllWithin}
 use Rattle.tcl_lang.specs.declared.range.RngTerm.TheViews as range_term
 use Rattle.tcl_circuits.proofs.Within.{on_err}
 use Rattle.tcl_words.proofs.RangeParts.{neg_first, neg_second, flip_all, cast_all, bin_first, bin_second, bin_third}
