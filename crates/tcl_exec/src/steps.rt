@@ -13,6 +13,7 @@ use tcl_lang::{Atom, Instr, Line, Op, Results, Ssa, is_exact_at, results};
 
 /// Computes the instruction at `place` anew: its results get the values that it computes, all else stays. A `nondet`,
 /// whose result is free, and a place without an instruction change nothing. The values stay in their types.
+#[inline(always)]
 pub fn step(ssa: &Ssa, place: u32, values: &mut [i128])
     requires { words.AreValues ssa.now.variables values.old }
     ensures values { values.new ≡ words.recomputed_at values.old (slice_get ssa.now.lines place) }
@@ -25,6 +26,7 @@ pub fn step(ssa: &Ssa, place: u32, values: &mut [i128])
 }
 
 /// Computes the instruction of a line anew, if the line has one.
+#[inline(always)]
 fn recompute_line(values: &mut [i128], line: &Line)
     requires { CanBePassed values.old line.now (pos 0) }
     ensures { values.new ≡ words.recomputed_at values.old (Some line.now) }
@@ -36,6 +38,7 @@ fn recompute_line(values: &mut [i128], line: &Line)
 }
 
 /// Computes an instruction anew; a `nondet` changes nothing.
+#[inline(always)]
 fn recompute(values: &mut [i128], instr: &Instr)
     requires { CanBeExecuted values.old instr.now (pos 0) }
     ensures { values.new ≡ words.recomputed values.old instr.now }
@@ -59,7 +62,7 @@ pub(crate) fn pass(values: &mut [i128], line: &Line, taken: i128)
 }
 
 /// Executes an instruction. `choice` is the value that a `nondet` takes; every other instruction ignores it.
-#[inline]
+#[inline(always)]
 fn execute(values: &mut [i128], instr: &Instr, choice: i128)
     requires { CanBeExecuted values.old instr.now choice }
     ensures { values.new ≡ words.step_values values.old instr.now choice }
