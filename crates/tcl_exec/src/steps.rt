@@ -61,22 +61,74 @@ pub(crate) fn pass(values: &mut [i128], line: &Line, taken: i128)
     }
 }
 
-/// Executes an instruction. `choice` is the value that a `nondet` takes; every other instruction ignores it.
+/// Executes an instruction. `choice` is the value that a `nondet` takes; every other instruction ignores it. There is an arm for
+/// each operation, so that it reads just its operands and writes just its results.
 #[inline(always)]
 fn execute(values: &mut [i128], instr: &Instr, choice: i128)
     requires { CanBeExecuted values.old instr.now choice }
     ensures { values.new ≡ words.step_values values.old instr.now choice }
 {
-    let operands = operands(values, instr, choice);
-    let computed = results(
-        instr.op,
-        instr.ty,
-        instr.amount,
-        operands.first,
-        operands.second,
-        operands.third,
-    );
+    match instr.op {
+        Op::Mov => execute_as(Op::Mov, values, instr, choice),
+        Op::Add => execute_as(Op::Add, values, instr, choice),
+        Op::Adds => execute_as(Op::Adds, values, instr, choice),
+        Op::Adc => execute_as(Op::Adc, values, instr, choice),
+        Op::Adcs => execute_as(Op::Adcs, values, instr, choice),
+        Op::Sub => execute_as(Op::Sub, values, instr, choice),
+        Op::Subb => execute_as(Op::Subb, values, instr, choice),
+        Op::Sbb => execute_as(Op::Sbb, values, instr, choice),
+        Op::Sbbs => execute_as(Op::Sbbs, values, instr, choice),
+        Op::Mul => execute_as(Op::Mul, values, instr, choice),
+        Op::Mull => execute_as(Op::Mull, values, instr, choice),
+        Op::Mulj => execute_as(Op::Mulj, values, instr, choice),
+        Op::Shl => execute_as(Op::Shl, values, instr, choice),
+        Op::Split => execute_as(Op::Split, values, instr, choice),
+        Op::Join => execute_as(Op::Join, values, instr, choice),
+        Op::Cast => execute_as(Op::Cast, values, instr, choice),
+        Op::Vpc => execute_as(Op::Vpc, values, instr, choice),
+        Op::Cmov => execute_as(Op::Cmov, values, instr, choice),
+        Op::And => execute_as(Op::And, values, instr, choice),
+        Op::Or => execute_as(Op::Or, values, instr, choice),
+        Op::Xor => execute_as(Op::Xor, values, instr, choice),
+        Op::Not => execute_as(Op::Not, values, instr, choice),
+        Op::Nondet => execute_as(Op::Nondet, values, instr, choice),
+    }
+}
+
+/// Executes an instruction of this operation.
+#[inline(always)]
+fn execute_as(op: Op, values: &mut [i128], instr: &Instr, choice: i128)
+    requires executable { CanBeExecuted values.old instr.now choice }
+    requires operation { instr.now.op ≡ op }
+    ensures { values.new ≡ words.step_values values.old instr.now choice }
+{
+    let first = operand(op, values, instr, 0, choice);
+    let second = operand(op, values, instr, 1, choice);
+    let third = operand(op, values, instr, 2, choice);
+    let computed = results(op, instr.ty, instr.amount, first, second, third);
     write(values, instr.outs.as_slice(), computed);
+}
+
+/// Operand `k` of an instruction of this operation; 0 where it has no such operand. The choice is the operand of a `nondet`.
+#[inline(always)]
+fn operand(op: Op, values: &[i128], instr: &Instr, k: usize, choice: i128) -> i128
+    ensures { result ≡ nth (operands_of op (words.operand_values values.now instr.now.args) choice) k }
+{
+    match op {
+        Op::Nondet => if k == 0 { choice } else { 0 },
+        _ => argument(values, instr.args.as_slice(), k),
+    }
+}
+
+/// The value of argument `k`; 0 where there is none.
+#[inline(always)]
+fn argument(values: &[i128], args: &[Atom], k: usize) -> i128
+    ensures { result ≡ nth (words.operand_values values.now args.now) k }
+{
+    match args.get(k) {
+        Some(atom) => atom_value(values, atom),
+        None => 0,
+    }
 }
 
 /// Whether the exactness condition of the instruction holds, or there is none.
