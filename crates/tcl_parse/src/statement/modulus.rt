@@ -8,7 +8,7 @@ ghost use Rattle.tcl_parse.specs.Readers.{Found};
 ghost use Rattle.tcl_parse.specs.StatementReaders.{sign_of, IsPart, NoPart, NoModulus};
 
 use crate::statement::tokens::ends;
-use crate::tree::reader::{Reading, behind_sign, capped, first_of, number_at};
+use crate::tree::reader::{Reading, behind_sign, capped, number_at};
 use std::alloc::{AllocError, Global};
 use tcl_lang::{Modulus, Part};
 use tcl_list::Listing;
@@ -56,10 +56,9 @@ fn sign_at(tokens: &[Token]) -> Option<(bool, &[Token])>
         ((minus : Bool) (us : List Token) → tokens.now ≡ Sign (sign_of minus) ∷ us → ⊥)
         (λ r. tokens.now ≡ Sign (sign_of r.0) ∷ r.1.now) }
 {
-    let (first, behind) = first_of(tokens)?;
-    match first {
-        Token::Sign(Symbol::Plus) => Some((false, behind)),
-        Token::Sign(Symbol::Minus) => Some((true, behind)),
+    match tokens {
+        [Token::Sign(Symbol::Plus), behind @ ..] => Some((false, behind)),
+        [Token::Sign(Symbol::Minus), behind @ ..] => Some((true, behind)),
         _ => None,
     }
 }

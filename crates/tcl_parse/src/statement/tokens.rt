@@ -5,7 +5,6 @@ ghost use Rattle.tcl_lang.specs.declared.ty.Ty.{Ty};
 ghost use Rattle.tcl_text.specs.declared.token.Token.{Token};
 ghost use Rattle.tcl_text.specs.declared.token.Token.TheVariants as token;
 
-use crate::tree::reader::first_of;
 use tcl_lang::Ty;
 use tcl_text::Token;
 
@@ -15,9 +14,8 @@ pub(crate) fn name_at(tokens: &[Token]) -> Option<(u32, &[Token])>
         ((x : ℕ) (us : List Token) → tokens.now ≡ token.Name x ∷ us → ⊥)
         (λ r. tokens.now ≡ token.Name r.0 ∷ r.1.now) }
 {
-    let (first, behind) = first_of(tokens)?;
-    match first {
-        Token::Name(name) => Some((*name, behind)),
+    match tokens {
+        [Token::Name(name), behind @ ..] => Some((*name, behind)),
         _ => None,
     }
 }
@@ -28,9 +26,8 @@ pub(crate) fn type_at(tokens: &[Token]) -> Option<(Ty, &[Token])>
         ((T : Ty) (us : List Token) → tokens.now ≡ token.Kind T ∷ us → ⊥)
         (λ r. tokens.now ≡ token.Kind r.0 ∷ r.1.now) }
 {
-    let (first, behind) = first_of(tokens)?;
-    match first {
-        Token::Kind(ty) => Some((*ty, behind)),
+    match tokens {
+        [Token::Kind(ty), behind @ ..] => Some((*ty, behind)),
         _ => None,
     }
 }

@@ -19,15 +19,10 @@ fn type_at(tokens: &[Token]) -> Option<(Ty, &[Token])>
         ((T : Ty) (us : List Token) → tokens.now ≡ Sign At ∷ Kind T ∷ us → ⊥)
         (λ r. tokens.now ≡ Sign At ∷ Kind r.0 ∷ r.1.now) }
 {
-    let (at, behind) = first_of(tokens)?;
-    let Token::Sign(Symbol::At) = at else {
-        return None;
-    };
-    let (kind, rest) = first_of(behind)?;
-    let Token::Kind(ty) = kind else {
-        return None;
-    };
-    Some((*ty, rest))
+    match tokens {
+        [Token::Sign(Symbol::At), Token::Kind(ty), rest @ ..] => Some((*ty, rest)),
+        _ => None,
+    }
 }
 
 /// The atom of a literal.

@@ -159,15 +159,16 @@ fn cast_at(tokens: &[Token]) -> Option<(Ty, &[Token])>
         ((T : Ty) (us : List Token) → tokens.now ≡ Instruction op.Cast ∷ Sign Open ∷ Kind T ∷ Sign Comma ∷ us → ⊥)
         (λ r. tokens.now ≡ Instruction op.Cast ∷ Sign Open ∷ Kind r.0 ∷ Sign Comma ∷ r.1.now) }
 {
-    let (first, behind) = first_of(tokens)?;
-    let Token::Instruction(Op::Cast) = first else {
-        return None;
-    };
-    let (kind, behind) = first_of(behind_sign(Symbol::Open, behind)?)?;
-    let Token::Kind(ty) = kind else {
-        return None;
-    };
-    Some((*ty, behind_sign(Symbol::Comma, behind)?))
+    match tokens {
+        [
+            Token::Instruction(Op::Cast),
+            Token::Sign(Symbol::Open),
+            Token::Kind(ty),
+            Token::Sign(Symbol::Comma),
+            rest @ ..,
+        ] => Some((*ty, rest)),
+        _ => None,
+    }
 }
 
 /// A range term that no operator goes on with.

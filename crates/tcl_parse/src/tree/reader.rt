@@ -51,11 +51,10 @@ pub(crate) fn number_at(tokens: &[Token]) -> Option<(&i128, &[Token])>
     ensures { MatchOption result ((n : ℤ) (us : List Token) → tokens.now ≡ Number n ∷ us → ⊥)
         (λ r. tokens.now ≡ Number r.0.now ∷ r.1.now) }
 {
-    let (first, behind) = first_of(tokens)?;
-    let Token::Number(n) = first else {
-        return None;
-    };
-    Some((n, behind))
+    match tokens {
+        [Token::Number(n), behind @ ..] => Some((n, behind)),
+        _ => None,
+    }
 }
 
 /// An exponent or an amount, which is kept up to the greatest `u32`.
