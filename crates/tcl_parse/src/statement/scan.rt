@@ -49,7 +49,13 @@ fn depth_after(depth: u64, token: &Token) -> u64
 pub(crate) fn has_too_many_operators(tokens: &[Token]) -> bool
     ensures { result ≡ scan.has_too_many_operators tokens.now }
 {
-    OPERATORS < tokens.iter().filter(|token| is_operator(token)).count()
+    let mut count = 0;
+    for token in tokens {
+        if is_operator(token) {
+            count += 1;
+        }
+    }
+    OPERATORS < count
 }
 
 /// The token is an operator.
@@ -123,7 +129,12 @@ fn modulus_keeps_exponents(modulus: &Option<Modulus>) -> bool
 fn parts_keep_exponents(parts: &[Part]) -> bool
     ensures { result ≡ list_all (λ part. is_exponent part.power) parts.now }
 {
-    parts.iter().all(|part| part_keeps_exponent(part))
+    for part in parts {
+        if !part_keeps_exponent(part) {
+            return false;
+        }
+    }
+    true
 }
 
 /// The exponent of the part is not above 1,024.

@@ -33,7 +33,14 @@ fn word_length(bytes: &[u8]) -> usize
     ensures length { result ≡ prefix_len tokens.is_word_byte bytes.now }
     ensures within { result ≤ length bytes.now }
 {
-    bytes.iter().take_while(|byte| is_word_byte(**byte)).count()
+    let mut length = 0;
+    for byte in bytes {
+        if !is_word_byte(*byte) {
+            return length;
+        }
+        length += 1;
+    }
+    length
 }
 
 /// A word of at most 64 bytes.

@@ -17,7 +17,14 @@ pub(crate) fn digit_count(bytes: &[u8]) -> usize
     ensures count { result ≡ prefix_len tokens.is_digit bytes.now }
     ensures within { result ≤ length bytes.now }
 {
-    bytes.iter().take_while(|byte| is_digit(**byte)).count()
+    let mut count = 0;
+    for byte in bytes {
+        if !is_digit(*byte) {
+            return count;
+        }
+        count += 1;
+    }
+    count
 }
 
 /// The number with these digits, up to `2^127 - 1`.

@@ -29,7 +29,14 @@ fn line_length(bytes: &[u8]) -> usize
     ensures length { result ≡ lines.line_length bytes.now }
     ensures within { result ≤ length bytes.now }
 {
-    bytes.iter().take_while(|byte| **byte != b'\n').count()
+    let mut length = 0;
+    for byte in bytes {
+        if *byte == b'\n' {
+            return length;
+        }
+        length += 1;
+    }
+    length
 }
 
 /// A line without the carriage return that ends it.

@@ -96,17 +96,24 @@ fn is_word_of_keyword(word: &[u8], keyword: Keyword) -> bool
 fn first_op(word: &[u8], ops: &[Op]) -> Option<Op>
     ensures { result ≡ find (λ op. bytes_eq word.now (words.word_of_op op)) ops.now }
 {
-    ops.iter().copied().find(|op| is_word_of_op(word, *op))
+    for op in ops {
+        if is_word_of_op(word, *op) {
+            return Some(*op);
+        }
+    }
+    None
 }
 
 /// The first of the reserved words that is written so.
 fn first_keyword(word: &[u8], keywords: &[Keyword]) -> Option<Keyword>
     ensures { result ≡ find (λ keyword. bytes_eq word.now (words.word_of_keyword keyword)) keywords.now }
 {
-    keywords
-        .iter()
-        .copied()
-        .find(|keyword| is_word_of_keyword(word, *keyword))
+    for keyword in keywords {
+        if is_word_of_keyword(word, *keyword) {
+            return Some(*keyword);
+        }
+    }
+    None
 }
 
 /// The instruction that is written so.
