@@ -1,5 +1,5 @@
 -- What one line does to what was read, said of its tokens.
-use Rattle.std.proofs.Common.{◌≡◌, ◌≤◌, ℕ, true, false, List, [], ◌∷◌, Result, Ok, Err, refl, sym, ap, subst, ◌∙◌, arith}
+use Rattle.std.proofs.Common.{◌≡◌, ◌≤◌, ℕ, true, false, List, [], ◌∷◌, length, Result, Ok, Err, refl, sym, ap, subst, ◌∙◌, arith}
 use Rattle.std.proofs.lemmas.Bool.{ltb-false}
 use Rattle.std.specs.Prelude.{Some, nat_lt, IfOk, MatchResult}
 use Rattle.tcl_lang.specs.Program.{ReadProgram}
@@ -27,17 +27,18 @@ mapped (Ok (Ok u)) h p q = p h
 mapped (Ok (Err f)) h p q = q f h
 mapped (Err e) h p q = h
 
-pub no_tokens : (s : Progress) (line : List ℕ) (raws : List Raw) → Some raws ≡ raws_of line → raws ≡ [] → Steps s line (skipped s)
-no_tokens s line raws e h = steps.blank (sym e ∙ ap (λ rs. Some rs) h)
+pub no_tokens : (s : Progress) (line : List ℕ) (raws : List Raw) → Some raws ≡ raws_of line → length raws ≡ 0 → Steps s line (skipped s)
+no_tokens s line [] e h = steps.blank (sym e)
+no_tokens s line (raw ∷ raws) e h = absurd (omega (arith, h))
 
 pub faulty_line : (s : Progress) (line : List ℕ) (raws : List Raw) (tokens : List Token) (f : LineFault) →
-    Some raws ≡ raws_of line → (raws ≡ [] → ⊥) → tokens ≡ tokens_of s.names raws → Judged tokens (Err f) →
+    Some raws ≡ raws_of line → (length raws ≡ 0 → ⊥) → tokens ≡ tokens_of s.names raws → Judged tokens (Err f) →
     Stops s line (text_fault.Line s.number f)
 faulty_line s line [] tokens f e some t j = absurd (some refl)
 faulty_line s line (raw ∷ raws) tokens f e some t j = steps.faulty (sym e) (subst (λ ts. Judged ts (Err f)) t j)
 
 pub misplaced_line : (s : Progress) (line : List ℕ) (raws : List Raw) (tokens : List Token) (l : Statement) (f : TextFault) →
-    Some raws ≡ raws_of line → (raws ≡ [] → ⊥) → tokens ≡ tokens_of s.names raws → Judged tokens (Ok l) →
+    Some raws ≡ raws_of line → (length raws ≡ 0 → ⊥) → tokens ≡ tokens_of s.names raws → Judged tokens (Ok l) →
     may_follow s.stage l ≡ false → f ≡ text_fault.Shape s.number → Stops s line f
 misplaced_line s line [] tokens l f e some t j m g = absurd (some refl)
 misplaced_line s line (raw ∷ raws) tokens l f e some t j m g =
@@ -48,7 +49,7 @@ same s names End = refl
 same s names (Program l) = refl
 
 pub placed_line : (s next : Progress) (line : List ℕ) (raws : List Raw) (tokens : List Token) (names : List (List ℕ)) (l : Statement) →
-    Some raws ≡ raws_of line → (raws ≡ [] → ⊥) → tokens ≡ tokens_of s.names raws → names ≡ names_after s.names raws →
+    Some raws ≡ raws_of line → (length raws ≡ 0 → ⊥) → tokens ≡ tokens_of s.names raws → names ≡ names_after s.names raws →
     Judged tokens (Ok l) → may_follow s.stage l ≡ true → next ≡ continued (record s { names = names }) names l → Steps s line next
 placed_line s next line [] tokens names l e some t a j m g = absurd (some refl)
 placed_line s next line (raw ∷ raws) tokens names l e some t a j m g =

@@ -14,7 +14,7 @@ use crate::text::limits::exceeded_limit;
 use crate::text::progress::Progress;
 use crate::text::reading::read;
 use std::alloc::Global;
-use tcl_lang::{Parsed, Program};
+use tcl_lang::Parsed;
 use tcl_text::{LineFault, TextFault};
 
 /// Reads the text of a program.
@@ -31,10 +31,21 @@ pub fn parse(alloc: Global, bytes: &[u8]) -> Result<Parsed, ParseFault>
     ensures refuses { (fault : ParseFault) → fault ≢ ParseFault.Memory → Says bytes.now fault →
         MatchResult result (λ _. ⊥) (λ answer. IsOrMemory answer fault) }
 {
-    match read(alloc, bytes) {
-        Ok(Ok(progress)) => program_of_text(alloc, progress),
-        Ok(Err(fault)) => Err(refusal_of(fault)),
-        Err(_) => Err(ParseFault::Memory),
+    let mut progress = Progress::start(alloc);
+    match read(&mut progress, alloc, bytes) {
+        Ok(Ok(())) => {
+            let answer = program_of_text(&mut progress, alloc);
+            drop(progress);
+            answer
+        }
+        Ok(Err(fault)) => {
+            drop(progress);
+            Err(refusal_of(fault))
+        }
+        Err(_) => {
+            drop(progress);
+            Err(ParseFault::Memory)
+        }
     }
 }
 
@@ -49,25 +60,19 @@ fn refusal_of(fault: TextFault) -> ParseFault
     }
 }
 
-/// The program that was read, or the first limit that it exceeds.
-fn program_of_text(alloc: Global, progress: Progress) -> Result<Parsed, ParseFault>
-    requires shape { HasShape progress.names progress.lines }
-    requires numbers { length progress.places ≡ length progress.lines }
+/// The program that was read, or the first limit that it exceeds. Afterwards the progress means nothing.
+fn program_of_text(progress: &mut Progress, alloc: Global) -> Result<Parsed, ParseFault>
+    requires shape { HasShape progress.old.names progress.old.lines }
+    requires numbers { length progress.old.places ≡ length progress.old.lines }
     ensures { MatchResult result
-        (λ p. (p ≡ program_of (progress_of progress)) × (limits.exceeded_limit progress.lines ≡ None))
-        (IsAnswer (limits.exceeded_limit progress.lines)) }
+        (λ p. (p ≡ program_of (progress_of progress.old)) × (limits.exceeded_limit progress.old.lines ≡ None))
+        (IsAnswer (limits.exceeded_limit progress.old.lines)) }
 {
-    if let Some(limit) = exceeded_limit(progress.lines.as_slice()) {
-        return Err(ParseFault::Limit(limit));
-    }
-    let Progress {
-        names,
-        lines,
-        places,
-        ..
-    } = progress;
-    match names.names(alloc) {
-        Ok(names) => Ok(Parsed::of(Program::of(names, lines), places)),
-        Err(_) => Err(ParseFault::Memory),
+    match exceeded_limit(progress.lines.as_slice()) {
+        Some(limit) => Err(ParseFault::Limit(limit)),
+        None => match progress.program(alloc) {
+            Ok(parsed) => Ok(parsed),
+            Err(_) => Err(ParseFault::Memory),
+        },
     }
 }

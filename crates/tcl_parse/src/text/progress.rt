@@ -1,7 +1,8 @@
 // What was read of a text before a line, and what the line does to it.
 
-ghost use Rattle.std.specs.Prelude.{◌≡◌, ◌≤◌, ◌^◌, ◌+◌, ◌-◌, ◌++◌, ◌∷◌, [], nat_lt, true, false, IfOk, IsOk, OnOk, MatchResult};
-ghost use Rattle.tcl_lang.specs.Shape.{stage_of as stage_spec};
+ghost use Rattle.std.specs.Prelude.{◌≡◌, ◌≤◌, ◌^◌, ◌+◌, ◌-◌, ◌++◌, ◌∷◌, ℕ, List, [], length, Some, nat_lt, true, false, IfOk, IsOk, OnOk, MatchResult};
+ghost use Rattle.tcl_lang.specs.Shape.{HasShape, stage_of as stage_spec};
+ghost use Rattle.tcl_text.specs.Tokens.{raws_of as raws_spec};
 ghost use Rattle.tcl_text.specs.Reading as text;
 ghost use Rattle.tcl_text.specs.declared.fault.TextFault.TheVariants as text_fault;
 ghost use Rattle.tcl_text.specs.declared.token.Statement.TheVariants as statement;
@@ -12,9 +13,10 @@ use crate::statement::line::judge;
 use crate::text::numbering::NameTable;
 use crate::text::tokens::raws_of;
 use std::alloc::{AllocError, Global};
-use tcl_lang::{Line, Lines, Places};
+use std::mem;
+use tcl_lang::{Line, Lines, Parsed, Places, Program};
 use tcl_list::Listing;
-use tcl_text::{LineFault, Statement, TextFault};
+use tcl_text::{LineFault, Raw, Statement, TextFault};
 
 /// The part of the text behind `end`.
 const LAST_STAGE: u32 = 4;
@@ -63,14 +65,25 @@ impl Progress {
         if LINES < self.number {
             return Err(AllocError);
         }
-        let Some(raws) = raws_of(alloc, line)? else {
-            return Ok(Err(TextFault::Line(self.number, LineFault::Text)));
-        };
+        match raws_of(alloc, line)? {
+            Some(raws) => self.read(alloc, raws.as_slice()),
+            None => Ok(Err(TextFault::Line(self.number, LineFault::Text))),
+        }
+    }
+
+    /// Reads the tokens of one line more, or finds their fault.
+    fn read(&mut self, alloc: Global, raws: &[Raw]) -> Result<Result<(), TextFault>, AllocError>
+        requires { self.old.number ≤ 2 ^ 32 - 2 }
+        ensures verdict { (line : List ℕ) → raws_spec line ≡ Some raws.now → IfOk result (λ verdict. MatchResult verdict
+            (λ _. Steps (progress_of self.old) line (progress_of self.new))
+            (λ fault. Stops (progress_of self.old) line fault)) }
+        ensures few { IfOk result (λ verdict. IsOk verdict → self.new.number ≤ 2 ^ 32 - 1) }
+    {
         if raws.is_empty() {
             self.number += 1;
             return Ok(Ok(()));
         }
-        let tokens = self.names.tokens_of(alloc, raws.as_slice())?;
+        let tokens = self.names.tokens_of(alloc, raws)?;
         match judge(alloc, tokens.as_slice())? {
             Ok(statement) => self.place(statement),
             Err(fault) => Ok(Err(TextFault::Line(self.number, fault))),
@@ -113,6 +126,18 @@ impl Progress {
         self.places.push(self.number)?;
         self.number += 1;
         Ok(())
+    }
+
+    /// The program of the lines that were read. Afterwards the progress means nothing.
+    pub fn program(&mut self, alloc: Global) -> Result<Parsed, AllocError>
+        requires shape { HasShape self.old.names self.old.lines }
+        requires numbers { length self.old.places ≡ length self.old.lines }
+        ensures { IfOk result (λ p. p ≡ text.program_of (progress_of self.old)) }
+    {
+        let names = self.names.names(alloc)?;
+        let lines = mem::replace(&mut self.lines, Listing::new(alloc));
+        let places = mem::replace(&mut self.places, Listing::new(alloc));
+        Ok(Parsed::of(Program::of(names, lines), places))
     }
 
     /// Reads `end`.

@@ -8,6 +8,7 @@ ghost use Rattle.tcl_parse.specs.Readers.{Found, OnFound, Ends, NoEnd, IsRead, N
 ghost use Rattle.tcl_parse.specs.Chains.{loosest, closing, Base, SignAt, NoSignAt, signed, Opens, NotOpened, Closed};
 
 use crate::tree::reader::{Reading, behind_sign, first_of};
+use sqlite_items::Boxed;
 use std::alloc::{AllocError, Global};
 use tcl_lang::Ty;
 use tcl_text::{Symbol, Token};
@@ -36,17 +37,14 @@ pub(crate) trait Chained: Drop {
     fn closing() -> Symbol
         ensures { result ≡ closing sort };
 
-    /// How loosely a token binds.
-    fn height_of(token: &Token) -> usize
-        ensures { result ≡ height sort token.now };
-
-    /// The operator that a token is.
-    fn operator_of(token: &Token) -> Option<Self::Joint>
-        ensures { MatchOption result (joint_of sort token.now ≡ None) (λ o. joint_of sort token.now ≡ Some (joint o)) };
+    /// The operator that a token is, and its height.
+    fn operator_of(token: &Token) -> Option<(usize, Self::Joint)>
+        ensures { MatchOption result (joint_of sort token.now ≡ None)
+            (λ r. (height sort token.now ≡ r.0) × (joint_of sort token.now ≡ Some (joint r.1))) };
 
     /// The tree of an operator and its two sides.
-    fn joined(alloc: Global, op: Self::Joint, left: Self, right: Self) -> Result<Self, AllocError>
-        ensures { IfOk result (λ t. tree t ≡ joined sort (joint op) (tree left) (tree right)) };
+    fn joined(op: Self::Joint, left: Boxed<Self>, right: Boxed<Self>) -> Self
+        ensures { tree result ≡ joined sort (joint op) (tree left) (tree right) };
 
     /// The sign that stands first, and the tokens behind it.
     fn sign_at(tokens: &[Token]) -> Option<(Symbol, &[Token])>
@@ -54,8 +52,8 @@ pub(crate) trait Chained: Drop {
         ensures shorter { IfSome result (λ r. length r.1.now < length tokens.now) };
 
     /// The tree of a sign and the tree behind it.
-    fn signed(alloc: Global, sign: Symbol, base: Self) -> Result<Self, AllocError>
-        ensures { IfOk result (λ t. tree t ≡ signed sort sign (tree base)) };
+    fn signed(sign: Symbol, base: Boxed<Self>) -> Self
+        ensures { tree result ≡ signed sort sign (tree base) };
 
     /// The tokens behind a bracket that stands first, or behind a cast's with the type that it casts to.
     fn opening(tokens: &[Token]) -> Option<(Option<Ty>, &[Token])>
@@ -88,13 +86,20 @@ fn operator_at<T: Chained>(level: usize, tokens: &[Token]) -> Option<Reading<'_,
     ensures shorter { IfSome result (λ r. length r.rest.now < length tokens.now) }
 {
     let (first, rest) = first_of(tokens)?;
-    if T::height_of(first) != level {
+    let (height, op) = T::operator_of(first)?;
+    if height != level {
         return None;
     }
-    Some(Reading {
-        tree: T::operator_of(first)?,
-        rest,
-    })
+    Some(Reading { tree: op, rest })
+}
+
+/// The tree of an operator and its two sides.
+fn join<T: Chained>(alloc: Global, op: T::Joint, left: T, right: T) -> Result<T, AllocError>
+    ensures { IfOk result (λ t. T.tree t ≡ joined T.sort (T.joint op) (T.tree left) (T.tree right)) }
+{
+    let left = Boxed::new(alloc, left)?;
+    let right = Boxed::new(alloc, right)?;
+    Ok(T::joined(op, left, right))
 }
 
 /// A tree in which operators up to this height stand outside brackets, and which none of them goes on with.
@@ -121,7 +126,7 @@ pub(crate) fn chain<T: Chained>(
         let Some(right) = chain(alloc, level - 1, op.rest)? else {
             return Ok(None);
         };
-        left = T::joined(alloc, op.tree, left, right.tree)?;
+        left = join(alloc, op.tree, left, right.tree)?;
         rest = right.rest;
     }
     Ok(Some(Reading { tree: left, rest }))
@@ -140,8 +145,9 @@ fn factor<T: Chained>(alloc: Global, tokens: &[Token]) -> Result<Option<Reading<
     let Some(found) = base::<T>(alloc, behind)? else {
         return Ok(None);
     };
+    let base = Boxed::new(alloc, found.tree)?;
     Ok(Some(Reading {
-        tree: T::signed(alloc, sign, found.tree)?,
+        tree: T::signed(sign, base),
         rest: found.rest,
     }))
 }

@@ -1,7 +1,8 @@
 // Range predicates: `||` over `&&` over factors. A base is a comparison, a truth value or a predicate in square brackets.
 
 ghost use Rattle.std.specs.Prelude.{◌≡◌, ◌<◌, length, MatchBool, MatchOption, IfSome};
-ghost use Rattle.tcl_text.specs.Trees.{prd, next_height, comparison_of};
+ghost use Rattle.tcl_text.specs.Trees.{prd, height, next_height, joined, comparison_of};
+ghost use Rattle.tcl_parse.specs.Chains.{signed};
 ghost use Rattle.tcl_parse.specs.Readers.{Found, OnFound, NoReading, Ends, NoEnd, IsRead, NoneRead, IsTruth, IsComparison};
 
 use crate::tree::chains::{Chained, chain};
@@ -31,36 +32,20 @@ impl Chained for RngPred {
         Symbol::CloseSquare
     }
 
-    /// 0 goes on with a range term, 1 and 2 are the operators, and 3 ends a predicate.
-    fn height_of(token: &Token) -> usize {
+    fn operator_of(token: &Token) -> Option<(usize, PredOp)> {
         match token {
-            Token::Sign(Symbol::Star | Symbol::Plus | Symbol::Minus) => 0,
-            Token::Sign(Symbol::Ampersand | Symbol::Caret | Symbol::Bar) => 0,
-            Token::Sign(Symbol::AndAnd) => 1,
-            Token::Sign(Symbol::BarBar) => 2,
-            _ => 3,
-        }
-    }
-
-    fn operator_of(token: &Token) -> Option<PredOp> {
-        match token {
-            Token::Sign(Symbol::AndAnd) => Some(PredOp::And),
-            Token::Sign(Symbol::BarBar) => Some(PredOp::Or),
+            Token::Sign(Symbol::AndAnd) => Some((1, PredOp::And)),
+            Token::Sign(Symbol::BarBar) => Some((2, PredOp::Or)),
             _ => None,
         }
     }
 
-    fn joined(
-        alloc: Global,
-        op: PredOp,
-        left: RngPred,
-        right: RngPred,
-    ) -> Result<RngPred, AllocError> {
-        let left = Boxed::new(alloc, left)?;
-        let right = Boxed::new(alloc, right)?;
+    fn joined(op: PredOp, left: Boxed<RngPred>, right: Boxed<RngPred>) -> RngPred
+        ensures { result ≡ joined prd op left right }
+    {
         match op {
-            PredOp::And => Ok(RngPred::Both(left, right)),
-            PredOp::Or => Ok(RngPred::Either(left, right)),
+            PredOp::And => RngPred::Both(left, right),
+            PredOp::Or => RngPred::Either(left, right),
         }
     }
 
@@ -69,8 +54,10 @@ impl Chained for RngPred {
         Some((Symbol::Bang, behind))
     }
 
-    fn signed(alloc: Global, _sign: Symbol, base: RngPred) -> Result<RngPred, AllocError> {
-        Ok(RngPred::Not(Boxed::new(alloc, base)?))
+    fn signed(sign: Symbol, base: Boxed<RngPred>) -> RngPred
+        ensures { result ≡ signed prd sign base }
+    {
+        RngPred::Not(base)
     }
 
     fn opening(tokens: &[Token]) -> Option<(Option<Ty>, &[Token])> {
@@ -142,12 +129,23 @@ fn truth_at(tokens: &[Token]) -> Option<Reading<'_, RngPred>>
     }
 }
 
+/// The token goes on with a range term.
+fn is_word_operator(token: &Token) -> bool
+    ensures { MatchBool result (height prd token.now ≡ 0) (0 < height prd token.now) }
+{
+    match token {
+        Token::Sign(Symbol::Star | Symbol::Plus | Symbol::Minus) => true,
+        Token::Sign(Symbol::Ampersand | Symbol::Caret | Symbol::Bar) => true,
+        _ => false,
+    }
+}
+
 /// A token that goes on with a range term follows.
 fn begins_with_word_operator(tokens: &[Token]) -> bool
     ensures { MatchBool result (next_height prd tokens.now ≡ 0) (0 < next_height prd tokens.now) }
 {
     match first_of(tokens) {
-        Some((first, _)) => RngPred::height_of(first) == 0,
+        Some((first, _)) => is_word_operator(first),
         None => false,
     }
 }

@@ -7,7 +7,8 @@ ghost use Rattle.tcl_lang.specs.declared.instr.Op.TheVariants as op;
 ghost use Rattle.tcl_text.specs.declared.symbol.Symbol.TheVariants.{Comma, Minus, Open};
 ghost use Rattle.tcl_text.specs.declared.token.Token.{Token};
 ghost use Rattle.tcl_text.specs.declared.token.Token.TheVariants.{Instruction, Kind, Sign};
-ghost use Rattle.tcl_text.specs.Trees.{wrd};
+ghost use Rattle.tcl_text.specs.Trees.{wrd, joined};
+ghost use Rattle.tcl_parse.specs.Chains.{signed};
 ghost use Rattle.tcl_text.specs.Grammar.{NoLiteral};
 ghost use Rattle.tcl_parse.specs.Readers.{Found, OnFound, IsRead, NoneRead};
 
@@ -38,39 +39,22 @@ impl Chained for RngTerm {
         Symbol::Close
     }
 
-    /// 1 to 5 are the operators, and 6 ends a range term.
-    fn height_of(token: &Token) -> usize {
+    fn operator_of(token: &Token) -> Option<(usize, RngOp)> {
         match token {
-            Token::Sign(Symbol::Star) => 1,
-            Token::Sign(Symbol::Plus | Symbol::Minus) => 2,
-            Token::Sign(Symbol::Ampersand) => 3,
-            Token::Sign(Symbol::Caret) => 4,
-            Token::Sign(Symbol::Bar) => 5,
-            _ => 6,
-        }
-    }
-
-    fn operator_of(token: &Token) -> Option<RngOp> {
-        match token {
-            Token::Sign(Symbol::Plus) => Some(RngOp::Add),
-            Token::Sign(Symbol::Minus) => Some(RngOp::Sub),
-            Token::Sign(Symbol::Star) => Some(RngOp::Mul),
-            Token::Sign(Symbol::Ampersand) => Some(RngOp::And),
-            Token::Sign(Symbol::Bar) => Some(RngOp::Or),
-            Token::Sign(Symbol::Caret) => Some(RngOp::Xor),
+            Token::Sign(Symbol::Star) => Some((1, RngOp::Mul)),
+            Token::Sign(Symbol::Plus) => Some((2, RngOp::Add)),
+            Token::Sign(Symbol::Minus) => Some((2, RngOp::Sub)),
+            Token::Sign(Symbol::Ampersand) => Some((3, RngOp::And)),
+            Token::Sign(Symbol::Caret) => Some((4, RngOp::Xor)),
+            Token::Sign(Symbol::Bar) => Some((5, RngOp::Or)),
             _ => None,
         }
     }
 
-    fn joined(
-        alloc: Global,
-        op: RngOp,
-        left: RngTerm,
-        right: RngTerm,
-    ) -> Result<RngTerm, AllocError> {
-        let left = Boxed::new(alloc, left)?;
-        let right = Boxed::new(alloc, right)?;
-        Ok(RngTerm::Bin(op, left, right))
+    fn joined(op: RngOp, left: Boxed<RngTerm>, right: Boxed<RngTerm>) -> RngTerm
+        ensures { result ≡ joined wrd op left right }
+    {
+        RngTerm::Bin(op, left, right)
     }
 
     fn sign_at(tokens: &[Token]) -> Option<(Symbol, &[Token])> {
@@ -83,11 +67,12 @@ impl Chained for RngTerm {
         Some((Symbol::Tilde, behind))
     }
 
-    fn signed(alloc: Global, sign: Symbol, base: RngTerm) -> Result<RngTerm, AllocError> {
-        let base = Boxed::new(alloc, base)?;
+    fn signed(sign: Symbol, base: Boxed<RngTerm>) -> RngTerm
+        ensures { result ≡ signed wrd sign base }
+    {
         match sign {
-            Symbol::Minus => Ok(RngTerm::Neg(base)),
-            _ => Ok(RngTerm::Flip(base)),
+            Symbol::Minus => RngTerm::Neg(base),
+            _ => RngTerm::Flip(base),
         }
     }
 

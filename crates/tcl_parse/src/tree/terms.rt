@@ -3,7 +3,8 @@
 ghost use Rattle.std.specs.Prelude.{◌≡◌, ◌≤◌, ◌<◌, length, MatchBool, List};
 ghost use Rattle.tcl_lang.specs.declared.term.Term.{Num};
 ghost use Rattle.tcl_text.specs.declared.token.Token.{Token};
-ghost use Rattle.tcl_text.specs.Trees.{alg, next_height};
+ghost use Rattle.tcl_text.specs.Trees.{alg, height, next_height, joined};
+ghost use Rattle.tcl_parse.specs.Chains.{signed};
 ghost use Rattle.tcl_text.specs.Grammar.{Powered, Prim};
 ghost use Rattle.tcl_parse.specs.Readers.{Found, OnFound, Ends, NoEnd, IsRead, NoneRead};
 
@@ -33,32 +34,22 @@ impl Chained for Term {
         Symbol::Close
     }
 
-    /// 0 goes on with a primary, 1 and 2 are the operators, and 3 ends a term.
-    fn height_of(token: &Token) -> usize {
+    fn operator_of(token: &Token) -> Option<(usize, TermOp)> {
         match token {
-            Token::Sign(Symbol::StarStar) => 0,
-            Token::Sign(Symbol::Star) => 1,
-            Token::Sign(Symbol::Plus | Symbol::Minus) => 2,
-            _ => 3,
-        }
-    }
-
-    fn operator_of(token: &Token) -> Option<TermOp> {
-        match token {
-            Token::Sign(Symbol::Plus) => Some(TermOp::Plus),
-            Token::Sign(Symbol::Minus) => Some(TermOp::Minus),
-            Token::Sign(Symbol::Star) => Some(TermOp::Times),
+            Token::Sign(Symbol::Star) => Some((1, TermOp::Times)),
+            Token::Sign(Symbol::Plus) => Some((2, TermOp::Plus)),
+            Token::Sign(Symbol::Minus) => Some((2, TermOp::Minus)),
             _ => None,
         }
     }
 
-    fn joined(alloc: Global, op: TermOp, left: Term, right: Term) -> Result<Term, AllocError> {
-        let left = Boxed::new(alloc, left)?;
-        let right = Boxed::new(alloc, right)?;
+    fn joined(op: TermOp, left: Boxed<Term>, right: Boxed<Term>) -> Term
+        ensures { result ≡ joined alg op left right }
+    {
         match op {
-            TermOp::Plus => Ok(Term::Add(left, right)),
-            TermOp::Minus => Ok(Term::Sub(left, right)),
-            TermOp::Times => Ok(Term::Mul(left, right)),
+            TermOp::Plus => Term::Add(left, right),
+            TermOp::Minus => Term::Sub(left, right),
+            TermOp::Times => Term::Mul(left, right),
         }
     }
 
@@ -67,8 +58,10 @@ impl Chained for Term {
         Some((Symbol::Minus, behind))
     }
 
-    fn signed(alloc: Global, _sign: Symbol, base: Term) -> Result<Term, AllocError> {
-        Ok(Term::Neg(Boxed::new(alloc, base)?))
+    fn signed(sign: Symbol, base: Boxed<Term>) -> Term
+        ensures { result ≡ signed alg sign base }
+    {
+        Term::Neg(base)
     }
 
     fn opening(tokens: &[Token]) -> Option<(Option<Ty>, &[Token])> {
@@ -108,12 +101,22 @@ fn number(n: &i128) -> Term
     Term::Num(*n)
 }
 
+/// The token begins another exponent.
+fn is_power(token: &Token) -> bool
+    ensures { MatchBool result (height alg token.now ≡ 0) (0 < height alg token.now) }
+{
+    match token {
+        Token::Sign(Symbol::StarStar) => true,
+        _ => false,
+    }
+}
+
 /// Another exponent follows.
 fn begins_with_power(tokens: &[Token]) -> bool
     ensures { MatchBool result (next_height alg tokens.now ≡ 0) (0 < next_height alg tokens.now) }
 {
     match first_of(tokens) {
-        Some((first, _)) => Term::height_of(first) == 0,
+        Some((first, _)) => is_power(first),
         None => false,
     }
 }

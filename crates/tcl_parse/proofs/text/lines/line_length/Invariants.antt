@@ -1,5 +1,4 @@
 use Rattle.std.proofs.Common.{◌≡◌, ◌+◌, drop}
-use Rattle.std.specs.List.{prefix_len}
 use Rattle.tcl_text.specs.Lines.{line_length}
 use Rattle.tcl_parse.proofs.text.lines.line_length.Given as goal
 

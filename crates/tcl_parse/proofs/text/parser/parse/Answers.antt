@@ -5,13 +5,13 @@ use Rattle.tcl_parse.proofs.text.parser.parse.Goals as goal
 
 pub returns-in-Ok-Ok-clause-accepts : goal.returns-in-Ok-Ok-clause-accepts
 returns-in-Ok-Ok-clause-accepts c =
-    let whole : IsWhole c.args.bytes.now c.in-Ok-Ok.progress = rw c.in-Ok-Ok.field-0-is at c.in-Ok-Ok.ensures in
-    (program_text c.args.bytes.now (program_of (progress_of c.in-Ok-Ok.progress)) c.program_of_text.result whole.reads c.program_of_text.ensures).accepts
+    let whole : IsWhole c.args.bytes.now c.read.new.progress = rw c.in-Ok-Ok.field-0-is at c.in-Ok-Ok.ensures in
+    (program_text c.args.bytes.now (program_of (progress_of c.read.new.progress)) c.program_of_text-answer.result whole.reads c.program_of_text-answer.ensures).accepts
 
 pub returns-in-Ok-Ok-clause-refuses : goal.returns-in-Ok-Ok-clause-refuses
 returns-in-Ok-Ok-clause-refuses c =
-    let whole : IsWhole c.args.bytes.now c.in-Ok-Ok.progress = rw c.in-Ok-Ok.field-0-is at c.in-Ok-Ok.ensures in
-    (program_text c.args.bytes.now (program_of (progress_of c.in-Ok-Ok.progress)) c.program_of_text.result whole.reads c.program_of_text.ensures).refuses
+    let whole : IsWhole c.args.bytes.now c.read.new.progress = rw c.in-Ok-Ok.field-0-is at c.in-Ok-Ok.ensures in
+    (program_text c.args.bytes.now (program_of (progress_of c.read.new.progress)) c.program_of_text-answer.result whole.reads c.program_of_text-answer.ensures).refuses
 
 pub returns-in-Ok-Err-clause-fault : goal.returns-in-Ok-Err-clause-fault
 returns-in-Ok-Err-clause-fault c =

@@ -6,11 +6,10 @@ use Rattle.tcl_parse.proofs.text.reading.read.Goals as goal
 
 pub loop-line-init : goal.loop-line-init
 loop-line-init c =
-    let e = c.start-progress.ensures in
-    let one : c.start-progress.result.number ≡ 1 = ap (λ s. s.number) e in
+    let one : c.args.progress.now.number ≡ 1 = ap (λ s. s.number) c.requires in
     record {
-      goes = begins c.args.bytes.now (progress_of c.start-progress.result) e;
-      kept = subst Kept (sym e) kept_start;
+      goes = begins c.args.bytes.now (progress_of c.args.progress.now) c.requires;
+      kept = subst Kept (sym c.requires) kept_start;
       few = omega (arith, one);
     }
 

@@ -57,7 +57,7 @@ factor-returns-in_default-2-clause-exact g t c =
 
 pub factor-returns-clause-exact : goal.factor-returns-clause-exact
 factor-returns-clause-exact g t c =
-    factors.read_signed c.in-Some.ensures.exact (rw c.in-Some-2.is at c.in_ok-found.ensures.exact) c.in_ok-signed.ensures
+    factors.read_signed c.in-Some.ensures.exact (rw c.in-Some-2.is at c.in_ok-found.ensures.exact) (rw c.in_ok-base.ensures at c.signed.ensures)
 
 pub base-returns-in_default-2-clause-exact : goal.base-returns-in_default-2-clause-exact
 base-returns-in_default-2-clause-exact g t c =
