@@ -1,19 +1,20 @@
 -- Whole lines by their first token.
 use Rattle.std.proofs.Common.{◌≡◌, List, [], ◌∷◌, refl, sym, ◌∙◌, ap, subst}
-use Rattle.std.specs.Prelude.{◌≢◌, ℕ, Option, Some, None}
+use Rattle.std.specs.Prelude.{◌≢◌, ℕ, Option, Some, None, Result, Ok, Err, IfOk}
 use Rattle.tcl_lang.specs.declared.ty.Ty.{Ty}
 use Rattle.tcl_lang.specs.declared.instr.Op.{Op}
 use Rattle.tcl_lang.specs.declared.instr.Instr.{Instr}
 use Rattle.tcl_lang.specs.declared.pred.Pred.{Pred}
-use Rattle.tcl_lang.specs.declared.pred.Line.{Line}
 use Rattle.tcl_lang.specs.declared.pred.Line.TheVariants as line
 use Rattle.tcl_text.specs.declared.token.Keyword.{Keyword}
 use Rattle.tcl_text.specs.declared.token.Keyword.TheVariants as keyword
 use Rattle.tcl_text.specs.declared.token.Token.{Token}
 use Rattle.tcl_text.specs.declared.token.Token.TheVariants.{Name, Kind, Instruction, Reserved}
+use Rattle.tcl_text.specs.declared.token.Statement.{Statement}
 use Rattle.tcl_text.specs.declared.token.Statement.TheVariants.{Program, End}
 use Rattle.tcl_text.specs.Statements as grammar
-use Rattle.tcl_parse.specs.StatementReaders.{NoStatement, stated_line}
+use Rattle.tcl_parse.specs.Readers.{Found}
+use Rattle.tcl_parse.specs.StatementReaders.{NoStatement, stated}
 
 -- the last line, and an input
 pub is_end : {ts : List Token} → ts ≡ [] → grammar.IsStatement (Reserved keyword.End ∷ ts) End
@@ -31,29 +32,29 @@ pub is_step : {op : Op} {T : Ty} {ts us : List Token} {i : Instr} → ts ≡ Kin
 is_step {op = op} {i = i} e p = subst (λ x. grammar.IsStatement (Instruction op ∷ x) (Program (line.Step i))) (sym e) (grammar.step p)
 
 -- a predicate behind the word of its line
-none_some : {l : Line} → (let x : Option Line = Some l in x ≡ None) → ⊥
+none_some : {l : Statement} → (let x : Option Statement = Some l in x ≡ None) → ⊥
 none_some e = cc
 
-pub no_word : (k : Keyword) (p : Pred) {ts : List Token} → k ≢ keyword.In → k ≢ keyword.End → stated_line k p ≡ None → NoStatement (Reserved k ∷ ts)
+no_word : (k : Keyword) (p : Pred) {ts : List Token} → k ≢ keyword.In → k ≢ keyword.End → None ≡ stated k p → NoStatement (Reserved k ∷ ts)
 no_word k p n m e s grammar.input = n refl
-no_word k p n m e s (grammar.pre q) = none_some e
-no_word k p n m e s (grammar.assert q) = none_some e
-no_word k p n m e s (grammar.assume q) = none_some e
-no_word k p n m e s (grammar.cut q) = none_some e
-no_word k p n m e s (grammar.post q) = none_some e
+no_word k p n m e s (grammar.pre q) = none_some (sym e)
+no_word k p n m e s (grammar.assert q) = none_some (sym e)
+no_word k p n m e s (grammar.assume q) = none_some (sym e)
+no_word k p n m e s (grammar.cut q) = none_some (sym e)
+no_word k p n m e s (grammar.post q) = none_some (sym e)
 no_word k p n m e s grammar.end_line = m refl
 
-some_is : {l l' : Line} → (let x : Option Line = Some l in x ≡ Some l') → l ≡ l'
+some_is : {l l' : Statement} → (let x : Option Statement = Some l in x ≡ Some l') → l' ≡ l
 some_is e = cc
 
-some_none : {l : Line} {P : Type 0} → (let x : Option Line = None in x ≡ Some l) → P
+some_none : {l : Statement} {P : Type 0} → (let x : Option Statement = Some l in x ≡ None) → P
 some_none e = absurd cc
 
-moved : {k : Keyword} {ts : List Token} {l l' : Line} → l ≡ l' → grammar.IsStatement (Reserved k ∷ ts) (Program l) → grammar.IsStatement (Reserved k ∷ ts) (Program l')
-moved {k = k} {ts = ts} e p = subst (λ x. grammar.IsStatement (Reserved k ∷ ts) (Program x)) e p
+moved : {k : Keyword} {ts : List Token} {l l' : Statement} → l ≡ l' → grammar.IsStatement (Reserved k ∷ ts) l → grammar.IsStatement (Reserved k ∷ ts) l'
+moved {k = k} {ts = ts} e p = subst (λ x. grammar.IsStatement (Reserved k ∷ ts) x) e p
 
-pub is_stated : (k : Keyword) (p : Pred) {l : Line} {ts : List Token} → stated_line k p ≡ Some l → grammar.Predicate ts p →
-    grammar.IsStatement (Reserved k ∷ ts) (Program l)
+is_stated : (k : Keyword) (p : Pred) {l : Statement} {ts : List Token} → Some l ≡ stated k p → grammar.Predicate ts p →
+    grammar.IsStatement (Reserved k ∷ ts) l
 is_stated keyword.Pre p e q = moved (some_is e) (grammar.pre q)
 is_stated keyword.Assert p e q = moved (some_is e) (grammar.assert q)
 is_stated keyword.Assume p e q = moved (some_is e) (grammar.assume q)
@@ -70,3 +71,10 @@ is_stated keyword.Ecut p e q = some_none e
 is_stated keyword.Rcut p e q = some_none e
 is_stated keyword.Proc p e q = some_none e
 is_stated keyword.Call p e q = some_none e
+
+pub stated_is : {E : Type 0} (k : Keyword) (p : Pred) {ts : List Token} (answer : Result (Option Statement) E) → k ≢ keyword.In →
+    k ≢ keyword.End → IfOk answer (λ s. s ≡ stated k p) → grammar.Predicate ts p →
+    Found answer (NoStatement (Reserved k ∷ ts)) (λ s. grammar.IsStatement (Reserved k ∷ ts) s)
+stated_is k p (Ok (Some s)) n m e q = is_stated k p e q
+stated_is k p (Ok None) n m e q = no_word k p n m e
+stated_is k p (Err f) n m e q = e

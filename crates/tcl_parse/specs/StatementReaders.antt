@@ -8,7 +8,6 @@ use Rattle.tcl_lang.specs.declared.term.Part.{Part}
 use Rattle.tcl_lang.specs.declared.term.AlgPred.{AlgPred}
 use Rattle.tcl_lang.specs.declared.pred.Pred.{Pred}
 use Rattle.tcl_lang.specs.declared.pred.Pred.TheVariants.{Alg}
-use Rattle.tcl_lang.specs.declared.pred.Line.{Line}
 use Rattle.tcl_lang.specs.declared.pred.Line.TheVariants as line
 use Rattle.tcl_text.specs.declared.symbol.Symbol.{Symbol}
 use Rattle.tcl_text.specs.declared.symbol.Symbol.TheVariants.{Plus, Minus}
@@ -17,6 +16,7 @@ use Rattle.tcl_text.specs.declared.token.Keyword.TheVariants as keyword
 use Rattle.tcl_text.specs.declared.token.Token.{Token}
 use Rattle.tcl_text.specs.declared.token.Token.TheVariants.{Reserved}
 use Rattle.tcl_text.specs.declared.token.Statement.{Statement}
+use Rattle.tcl_text.specs.declared.token.Statement.TheVariants.{Program}
 use Rattle.tcl_text.specs.declared.fault.Limit.TheVariants.{Exponent}
 use Rattle.tcl_text.specs.declared.fault.LineFault.{LineFault}
 use Rattle.tcl_text.specs.declared.fault.LineFault.TheVariants as fault
@@ -72,14 +72,14 @@ NoEquation ts = (p : AlgPred) → Equation ts p → ⊥
 abbrev pub NoPredicate : List Token → Type 0
 NoPredicate ts = (p : Pred) → Predicate ts p → ⊥
 
--- the line that a word makes of a predicate
-abbrev pub stated_line : Keyword → Pred → Option Line
-stated_line keyword.Pre p = Some (line.Pre p)
-stated_line keyword.Assert p = Some (line.Assert p)
-stated_line keyword.Assume p = Some (line.Assume p)
-stated_line keyword.Cut p = Some (line.Cut p)
-stated_line keyword.Post p = Some (line.Post p)
-stated_line _ p = None
+-- the statement that a word makes of a predicate
+abbrev pub stated : Keyword → Pred → Option Statement
+stated keyword.Pre p = Some (Program (line.Pre p))
+stated keyword.Assert p = Some (Program (line.Assert p))
+stated keyword.Assume p = Some (Program (line.Assume p))
+stated keyword.Cut p = Some (Program (line.Cut p))
+stated keyword.Post p = Some (Program (line.Post p))
+stated _ p = None
 
 -- the tokens are no line
 abbrev pub NoStatement : List Token → Type 0

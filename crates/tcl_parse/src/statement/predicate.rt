@@ -12,12 +12,13 @@ use crate::statement::tokens::ends;
 use crate::tree::range_predicates::range_pred;
 use crate::tree::reader::{behind_sign, first_of};
 use crate::tree::terms::term;
+use sqlite_items::Boxed;
 use std::alloc::{AllocError, Global};
 use tcl_lang::{AlgPred, Modulus, Pred};
 use tcl_text::{Keyword, Symbol, Token};
 
 /// A predicate behind the word of its line.
-pub(crate) fn predicate(alloc: Global, tokens: &[Token]) -> Result<Option<Pred>, AllocError>
+pub(crate) fn predicate(alloc: Global, tokens: &[Token]) -> Result<Option<Boxed<Pred>>, AllocError>
     ensures exact { Found result (NoPredicate tokens.now) (λ p. grammar.Predicate tokens.now p) }
 {
     let Some((first, behind)) = first_of(tokens) else {
@@ -31,7 +32,7 @@ pub(crate) fn predicate(alloc: Global, tokens: &[Token]) -> Result<Option<Pred>,
 }
 
 /// A range predicate behind its word.
-fn range(alloc: Global, tokens: &[Token]) -> Result<Option<Pred>, AllocError>
+fn range(alloc: Global, tokens: &[Token]) -> Result<Option<Boxed<Pred>>, AllocError>
     ensures exact { Found result
         (NoPredicate (Reserved keyword.Rng ∷ tokens.now)) (λ p. grammar.Predicate (Reserved keyword.Rng ∷ tokens.now) p) }
 {
@@ -39,19 +40,19 @@ fn range(alloc: Global, tokens: &[Token]) -> Result<Option<Pred>, AllocError>
         return Ok(None);
     };
     if ends(pred.rest) {
-        Ok(Some(Pred::Rng(pred.tree)))
+        Ok(Some(Boxed::new(alloc, Pred::Rng(pred.tree))?))
     } else {
         Ok(None)
     }
 }
 
 /// An algebraic predicate behind its word.
-fn algebraic(alloc: Global, tokens: &[Token]) -> Result<Option<Pred>, AllocError>
+fn algebraic(alloc: Global, tokens: &[Token]) -> Result<Option<Boxed<Pred>>, AllocError>
     ensures exact { Found result
         (NoPredicate (Reserved keyword.Alg ∷ tokens.now)) (λ p. grammar.Predicate (Reserved keyword.Alg ∷ tokens.now) p) }
 {
     match equation(alloc, tokens)? {
-        Some(pred) => Ok(Some(Pred::Alg(pred))),
+        Some(pred) => Ok(Some(Boxed::new(alloc, Pred::Alg(pred))?)),
         None => Ok(None),
     }
 }

@@ -12,6 +12,7 @@ ghost use Rattle.tcl_parse.specs.TextSteps.{Steps, Stops};
 use crate::statement::line::judge;
 use crate::text::numbering::NameTable;
 use crate::text::tokens::raws_of;
+use sqlite_items::Boxed;
 use std::alloc::{AllocError, Global};
 use std::mem;
 use tcl_lang::{Line, Lines, Parsed, Places, Program};
@@ -91,7 +92,7 @@ impl Progress {
     }
 
     /// Puts a statement into its place, if it is there.
-    fn place(&mut self, statement: Statement) -> Result<Result<(), TextFault>, AllocError>
+    fn place(&mut self, statement: Boxed<Statement>) -> Result<Result<(), TextFault>, AllocError>
         requires { self.old.number ≤ 2 ^ 32 - 2 }
         ensures verdict { IfOk result (λ verdict. MatchResult verdict
             (λ _. (text.may_follow self.old.stage statement ≡ true) ×
@@ -100,8 +101,8 @@ impl Progress {
         ensures few { IfOk result (λ _. self.new.number ≤ 2 ^ 32 - 1) }
     {
         let number = self.number;
-        let follows = may_follow(self.stage, &statement);
-        match statement {
+        let follows = may_follow(self.stage, statement.get());
+        match statement.into_inner() {
             Statement::Program(line) => self.put(line)?,
             Statement::End => self.end(),
         }

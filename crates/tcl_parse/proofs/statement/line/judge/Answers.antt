@@ -9,12 +9,12 @@ returns-then-nests_too_deep c = verdict.too_deep (sym c.if-nests_too_deep.ensure
 pub returns-then-has_too_many_operators : goal.returns-then-has_too_many_operators
 returns-then-has_too_many_operators c = verdict.too_many (sym c.if-nests_too_deep.ensures) (sym c.if-has_too_many_operators.ensures)
 
-pub returns-in_default : goal.returns-in_default
-returns-in_default c =
-    let n = rw c.in_default.is at c.in_ok-statement.ensures.exact in
+pub returns-in-None : goal.returns-in-None
+returns-in-None c =
+    let n = rw c.in-None.is at c.in_ok-statement.ensures.exact in
     verdict.no_line (sym c.if-nests_too_deep.ensures) (sym c.if-has_too_many_operators.ensures) n
 
-pub returns : goal.returns
-returns c =
+pub returns-in-Some : goal.returns-in-Some
+returns-in-Some c =
     let s = rw c.in-Some.is at c.in_ok-statement.ensures.exact in
     rw c.kept.ensures (is_kept (sym c.if-nests_too_deep.ensures) (sym c.if-has_too_many_operators.ensures) s)
