@@ -116,26 +116,21 @@ impl Chained for RngTerm {
     }
 }
 
-/// A number and `@`.
-fn starts_literal(tokens: &[Token]) -> bool
-    ensures { MatchBool result (NoLiteral tokens.now → ⊥) (NoLiteral tokens.now) }
-{
-    let Some((Token::Number(_), behind)) = first_of(tokens) else {
-        return false;
-    };
-    behind_sign(Symbol::At, behind).is_some()
-}
-
 /// A `-` that is no literal's, and the tokens behind it.
 fn minus_at(tokens: &[Token]) -> Option<&[Token]>
     ensures { MatchOption result ((us : List Token) → tokens.now ≡ Sign Minus ∷ us → NoLiteral us → ⊥)
         (λ r. (tokens.now ≡ Sign Minus ∷ r.now) × NoLiteral r.now) }
 {
-    let behind = behind_sign(Symbol::Minus, tokens)?;
-    if starts_literal(behind) {
-        return None;
+    match tokens {
+        [
+            Token::Sign(Symbol::Minus),
+            Token::Number(_),
+            Token::Sign(Symbol::At),
+            ..
+        ] => None,
+        [Token::Sign(Symbol::Minus), behind @ ..] => Some(behind),
+        _ => None,
     }
-    Some(behind)
 }
 
 /// `cast (T,` with its type, and the tokens behind it.
