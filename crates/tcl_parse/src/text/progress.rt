@@ -1,6 +1,7 @@
 // What was read of a text before a line, and what the line does to it.
 
-ghost use Rattle.std.specs.Prelude.{◌≡◌, ◌≤◌, ◌^◌, ◌+◌, ◌-◌, ◌++◌, ◌∷◌, ℕ, List, [], length, Some, nat_lt, true, false, IfOk, IsOk, OnOk, MatchResult};
+ghost use Rattle.std.specs.Prelude.{◌≡◌, ◌≤◌, ◌^◌, ◌+◌, ◌-◌, ◌++◌, ◌∷◌, ℕ, List, [], length, Some, nat_lt, true, false};
+ghost use Rattle.std.specs.Prelude.{IfOk, IsOk, OnOk, MatchResult};
 ghost use Rattle.tcl_lang.specs.Shape.{HasShape, stage_of as stage_spec};
 ghost use Rattle.tcl_text.specs.Tokens.{raws_of as raws_spec};
 ghost use Rattle.tcl_text.specs.Reading as text;
