@@ -1,12 +1,10 @@
 // Plain reduction over the integers.
 
-ghost use Rattle.std.specs.Prelude.{ℕ, IfOk, IsTrue, OnOk, [], ◌∷◌, ◌++◌};
+ghost use Rattle.std.specs.Prelude.{IfOk};
 ghost use Rattle.tcl_ring.specs.Reduction as r;
 ghost use Rattle.tcl_poly.specs.Polynomial.{IsOver};
 ghost use Rattle.tcl_reduce.specs.Answer.{definitions_of};
-ghost use Rattle.tcl_reduce.specs.Definitions.{AreRising};
 ghost use Rattle.tcl_reduce.specs.Remainder.{AreDefinitions};
-ghost use Rattle.tcl_poly.specs.Combination.{Terms};
 
 use std::alloc::{AllocError, Global};
 use tcl_poly::{
@@ -53,11 +51,7 @@ fn reduced<R: Ring>(
     count: u32,
     definitions: u32,
 ) -> Result<Plain<R>, PolyFault> {
-    let mut defs = Defs::new(alloc);
-    for k in 0..definitions {
-        let poly = definition_of(alloc, ring, k)?;
-        define(ring, &mut defs, k, INPUTS.saturating_add(k), poly)?;
-    }
+    let defs = defined_variables(alloc, ring, definitions)?;
     let f = polynomial(alloc, ring, count, definitions)?;
     reduced_by(alloc, ring, &defs, &f)
 }
@@ -77,45 +71,20 @@ fn reduced_by<R: Ring>(
     Ok(plain(alloc, ring, defs, f))
 }
 
-/// Whether the place comes after all others.
-fn is_later<R: Ring>(defs: &Defs<R>, place: u32) -> bool
-    ensures { IsTrue result → (variable : ℕ) (poly : Terms R.Elem) → AreRising (defs.now ++ (place, variable, poly) ∷ []) }
+/// So many definitions, one at each place.
+fn defined_variables<R: Ring>(alloc: Global, ring: &R, count: u32) -> Result<Defs<R>, PolyFault>
+    ensures { IfOk result (λ defs. AreDefinitions (r.reduced_by (R.modulus_of ring.now)) (definitions_of (R.amount ring.now) defs)) }
 {
-    let count = defs.len();
-    if count == 0 {
-        return true;
+    let mut defs = Defs::new(alloc);
+    for place in 0..count {
+        let poly = definition_of(alloc, ring, place)?;
+        defs.push(Definition {
+            place,
+            variable: INPUTS.saturating_add(place),
+            poly,
+        })?;
     }
-    let last = defs.at(count - 1).place;
-    if last < place {
-        return true;
-    }
-    false
-}
-
-/// Appends a definition, if its place comes after the others.
-fn define<R: Ring>(
-    ring: &R,
-    defs: &mut Defs<R>,
-    place: u32,
-    variable: u32,
-    poly: Poly<R>,
-) -> Result<(), PolyFault>
-    requires definitions { AreDefinitions (r.reduced_by (R.modulus_of ring.now)) (definitions_of (R.amount ring.now) defs.old) }
-    requires over { IsOver (R.modulus_of ring.now) (R.amount ring.now) poly }
-    ensures { OnOk result (AreDefinitions (r.reduced_by (R.modulus_of ring.now)) (definitions_of (R.amount ring.now) defs.new)) }
-{
-    if !is_later(defs, place) {
-        return Err(PolyFault::Wide);
-    }
-    let definition = Definition {
-        place,
-        variable,
-        poly,
-    };
-    match defs.push(definition) {
-        Ok(()) => Ok(()),
-        Err(_) => Err(PolyFault::Memory),
-    }
+    Ok(defs)
 }
 
 /// Twice a product of two inputs, plus the variable that an earlier place defines, or an input.
