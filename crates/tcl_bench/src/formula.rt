@@ -41,8 +41,8 @@ impl Formula {
     pub(crate) fn clauses(self, alloc: Global) -> Result<Cnf, AllocError> {
         match self {
             Formula::Multiply(width) => multiply(alloc, width),
-            Formula::Distribute(width) => distribute(alloc, width),
-            Formula::Associate(width) => associate(alloc, width),
+            Formula::Distribute(width) => sides_differ(alloc, Law::Distributive, width),
+            Formula::Associate(width) => sides_differ(alloc, Law::Associative, width),
             Formula::Pigeons(pigeons, holes) => pigeons_sit(alloc, pigeons, holes),
         }
     }
@@ -57,93 +57,69 @@ fn multiply(alloc: Global, width: u32) -> Result<Cnf, AllocError> {
     unequal(alloc, &mut gates, &left, &right)
 }
 
-fn distribute(alloc: Global, width: u32) -> Result<Cnf, AllocError> {
+/// A law of three words.
+#[derive(Clone, Copy)]
+enum Law {
+    /// `x * (y + z) = x * y + x * z`.
+    Distributive,
+    /// `(x + y) + z = x + (y + z)`.
+    Associative,
+}
+
+impl Law {
+    /// The left side.
+    fn left(
+        self,
+        alloc: Global,
+        gates: &mut Gates,
+        x: &[Lit],
+        y: &[Lit],
+        z: &[Lit],
+    ) -> Result<Vec<Lit>, AllocError> {
+        match self {
+            Law::Distributive => {
+                let both = circuit::sum(alloc, gates, y, z)?;
+                circuit::product(alloc, gates, x, &both)
+            }
+            Law::Associative => {
+                let both = circuit::sum(alloc, gates, x, y)?;
+                circuit::sum(alloc, gates, &both, z)
+            }
+        }
+    }
+
+    /// The right side.
+    fn right(
+        self,
+        alloc: Global,
+        gates: &mut Gates,
+        x: &[Lit],
+        y: &[Lit],
+        z: &[Lit],
+    ) -> Result<Vec<Lit>, AllocError> {
+        match self {
+            Law::Distributive => {
+                let first = circuit::product(alloc, gates, x, y)?;
+                let second = circuit::product(alloc, gates, x, z)?;
+                circuit::sum(alloc, gates, &first, &second)
+            }
+            Law::Associative => {
+                let both = circuit::sum(alloc, gates, y, z)?;
+                circuit::sum(alloc, gates, x, &both)
+            }
+        }
+    }
+}
+
+/// The two sides of the law differ, for words of so many bits.
+fn sides_differ(alloc: Global, law: Law, width: u32) -> Result<Cnf, AllocError> {
     let mut gates = Gates::new(alloc);
     let x = circuit::input(alloc, &mut gates, width)?;
     let y = circuit::input(alloc, &mut gates, width)?;
     let z = circuit::input(alloc, &mut gates, width)?;
-    products_differ(alloc, &mut gates, &x, &y, &z)
-}
-
-fn products_differ(
-    alloc: Global,
-    gates: &mut Gates,
-    x: &[Lit],
-    y: &[Lit],
-    z: &[Lit],
-) -> Result<Cnf, AllocError> {
-    let left = product_of_sum(alloc, gates, x, y, z)?;
-    let right = sum_of_products(alloc, gates, x, y, z)?;
-    unequal(alloc, gates, &left, &right)
-}
-
-/// `x * (y + z)`.
-fn product_of_sum(
-    alloc: Global,
-    gates: &mut Gates,
-    x: &[Lit],
-    y: &[Lit],
-    z: &[Lit],
-) -> Result<Vec<Lit>, AllocError> {
-    let both = circuit::sum(alloc, gates, y, z)?;
-    circuit::product(alloc, gates, x, &both)
-}
-
-/// `x * y + x * z`.
-fn sum_of_products(
-    alloc: Global,
-    gates: &mut Gates,
-    x: &[Lit],
-    y: &[Lit],
-    z: &[Lit],
-) -> Result<Vec<Lit>, AllocError> {
-    let first = circuit::product(alloc, gates, x, y)?;
-    let second = circuit::product(alloc, gates, x, z)?;
-    circuit::sum(alloc, gates, &first, &second)
-}
-
-fn associate(alloc: Global, width: u32) -> Result<Cnf, AllocError> {
-    let mut gates = Gates::new(alloc);
-    let x = circuit::input(alloc, &mut gates, width)?;
-    let y = circuit::input(alloc, &mut gates, width)?;
-    let z = circuit::input(alloc, &mut gates, width)?;
-    sums_differ(alloc, &mut gates, &x, &y, &z)
-}
-
-fn sums_differ(
-    alloc: Global,
-    gates: &mut Gates,
-    x: &[Lit],
-    y: &[Lit],
-    z: &[Lit],
-) -> Result<Cnf, AllocError> {
-    let left = sum_plus_word(alloc, gates, x, y, z)?;
-    let right = word_plus_sum(alloc, gates, x, y, z)?;
-    unequal(alloc, gates, &left, &right)
-}
-
-/// `(x + y) + z`.
-fn sum_plus_word(
-    alloc: Global,
-    gates: &mut Gates,
-    x: &[Lit],
-    y: &[Lit],
-    z: &[Lit],
-) -> Result<Vec<Lit>, AllocError> {
-    let both = circuit::sum(alloc, gates, x, y)?;
-    circuit::sum(alloc, gates, &both, z)
-}
-
-/// `x + (y + z)`.
-fn word_plus_sum(
-    alloc: Global,
-    gates: &mut Gates,
-    x: &[Lit],
-    y: &[Lit],
-    z: &[Lit],
-) -> Result<Vec<Lit>, AllocError> {
-    let both = circuit::sum(alloc, gates, y, z)?;
-    circuit::sum(alloc, gates, x, &both)
+    let left = law.left(alloc, &mut gates, &x, &y, &z)?;
+    let right = law.right(alloc, &mut gates, &x, &y, &z)?;
+    unequal(alloc, &mut gates, &left, &right)
 }
 
 /// The clauses of the gates, and that some bit of the two words differs.
