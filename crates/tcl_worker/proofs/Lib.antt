@@ -2,6 +2,7 @@ pub mod Entries
 pub mod HighestBits
 pub mod CandidateFacts
 pub mod Making
+pub mod MeetingRuns
 pub mod InputLines
 pub mod Conflicts
 pub mod FirstInputs

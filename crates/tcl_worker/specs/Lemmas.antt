@@ -1,8 +1,6 @@
 -- The lemma that is made for a fact whose clauses are to be searched: its candidates are searched in order, by at most 256
 -- derived clauses each, and the first that is shown is made.
-use Rattle.std.specs.Prelude.{◌≡◌, ◌⊎◌, ◌<◌, ◌≤◌, ℕ, min, Bool, true, false, List, [], length, slice_get, Some}
-use Rattle.tcl_cnf.specs.Literal.{value_at}
-use Rattle.tcl_cnf.specs.Clause.{Satisfies}
+use Rattle.std.specs.Prelude.{◌≡◌, ◌⊎◌, ◌<◌, ◌≤◌, ℕ, min, true, false, List, [], length, slice_get, Some}
 use Rattle.tcl_cnf.specs.FreshLogs.{DeriveFresh}
 use Rattle.tcl_cnf.specs.Log.{log_answer}
 use Rattle.tcl_cnf.specs.declared.answer.LogAnswer.TheVariants as answer
@@ -12,6 +10,7 @@ use Rattle.tcl_goals.specs.declared.fact.Fact.{Fact}
 use Rattle.tcl_goals.specs.declared.lemma.Numbered.{Numbered}
 use Rattle.tcl_goals.specs.LemmaList.{LemmaList}
 use Rattle.tcl_blast.specs.Clauses.{clauses_of, clause_limit}
+use Rattle.tcl_blast.specs.Laws.{AreMet}
 use Rattle.tcl_kernel.specs.BoundsCertificate.{is_bounded, is_algebraic_claim}
 use Rattle.tcl_kernel.specs.Causes.{is_walked_by}
 use Rattle.tcl_worker.specs.Candidates.{candidate_bits, is_known, candidate_fact}
@@ -33,16 +32,12 @@ pub record IsRefuted (clauses : List (List ℕ)) (budget : ℕ) : Type 0 where
   pub few : length lines ≤ budget
   pub refutes : log_answer clauses lines ≡ answer.Refutes
 
--- some bits meet the clauses; a log has as many fresh clauses as the budget, none of them empty
-pub record AreMet (clauses : List (List ℕ)) : Type 0 where
-  pub bits : List Bool
-  pub meets : Satisfies (value_at bits) clauses
-
+-- a log has as many fresh clauses as the budget, none of them empty
 pub record HasSpentLog (clauses : List (List ℕ)) (budget : ℕ) : Type 0 where
   pub lines : List (List ℕ)
   pub derives : DeriveFresh clauses budget lines
 
--- a search of these clauses shows nothing: they are met, the budget is spent, or they are too many
+-- a search of these clauses shows nothing: some values meet them, the budget is spent, or they are too many
 abbrev pub IsVain : List (List ℕ) → ℕ → Type 0
 IsVain clauses budget = AreMet clauses ⊎ HasSpentLog clauses budget ⊎ (clause_limit < length clauses)
 

@@ -5,6 +5,7 @@ pub mod Inputs
 pub mod Trials
 pub mod Candidates
 pub mod Citing
+pub mod Denials
 pub mod Lemmas
 pub mod Entries
 pub mod Proofs

@@ -1,16 +1,18 @@
 //! The making of lemmas for a fact whose clauses are to be searched.
 
-ghost use Rattle.std.specs.Prelude.{◌≡◌, ◌≤◌, ◌<◌, false, [], length, IfOk, OnOk};
+ghost use Rattle.std.specs.Prelude.{◌≡◌, ◌≤◌, ◌<◌, All, false, [], length, IfOk, OnOk};
 ghost use Rattle.tcl_lang.specs.Form.{IsWellFormed};
 ghost use Rattle.tcl_goals.specs.Order.{InOrder};
 ghost use Rattle.tcl_blast.specs.Clauses.{clauses_of, clause_limit};
 ghost use Rattle.tcl_kernel.specs.BoundsCertificate.{is_algebraic_claim};
 ghost use Rattle.tcl_worker.specs.Candidates as candidates;
+ghost use Rattle.tcl_worker.specs.Denials.{MeetsHyps};
 ghost use Rattle.tcl_worker.specs.Lemmas.{IsToBeSearched};
 ghost use Rattle.tcl_worker.specs.SearchEnds.{IsCandidateEnd, IsMakingEnd, IsTrialEnd, LemmaStopped, NeverFell};
 
 use crate::candidates::{candidate_bits, candidate_fact, is_known};
 use crate::clause_search::search_end;
+use crate::denials::{is_denied, meeting_runs};
 use crate::logs::proved_by_log;
 use crate::search_end::{LemmaEnd, SearchEnd};
 use std::alloc::{AllocError, Global};
@@ -18,7 +20,7 @@ use tcl_blast::{BlastEnd, clauses};
 use tcl_cnf::Cnf;
 use tcl_goals::{BitLit, Fact, Lemmas};
 use tcl_kernel::Facts;
-use tcl_lang::Ssa;
+use tcl_lang::{Ssa, Trace};
 use tcl_port::Port;
 
 /// The most clauses that the search of a candidate derives.
@@ -48,8 +50,19 @@ pub(crate) fn made_lemma<P: Port>(
         return Ok(LemmaEnd::Vain);
     }
     let bits = candidate_bits(alloc, ssa, &fact.claim)?;
+    let runs = meeting_runs(alloc, ssa, fact)?;
     for k in 0..bits.len() {
-        match tried(alloc, ssa, earlier, lemmas, fact, *bits.at(k), port, budget)? {
+        match tried(
+            alloc,
+            ssa,
+            earlier,
+            lemmas,
+            fact,
+            runs.as_slice(),
+            *bits.at(k),
+            port,
+            budget,
+        )? {
             LemmaEnd::Proved(proof) => return Ok(LemmaEnd::Proved(proof)),
             LemmaEnd::Stopped => return Ok(LemmaEnd::Stopped),
             LemmaEnd::Vain => (),
@@ -58,13 +71,14 @@ pub(crate) fn made_lemma<P: Port>(
     Ok(LemmaEnd::Vain)
 }
 
-/// Tries a candidate that is no lemma of the list.
+/// Tries a candidate that is no lemma of the list and that none of these runs denies.
 fn tried<P: Port>(
     alloc: Global,
     ssa: &Ssa,
     earlier: &Facts,
     lemmas: &Lemmas,
     fact: &Fact,
+    runs: &[Trace],
     bit: BitLit,
     port: &mut P,
     budget: u32,
@@ -72,12 +86,16 @@ fn tried<P: Port>(
     requires earlier { earlier.now ≡ record { program = ssa.now; lemmas = []; facts = [] } }
     requires formed { IsWellFormed ssa.now }
     requires order { InOrder ssa.now [] (candidates.candidate_fact fact.now bit) }
+    requires met { All (MeetsHyps ssa.now fact.now) runs.now }
     requires budget { 0 < budget }
     ensures end { IfOk result (λ end. IsTrialEnd ssa.now budget lemmas.now.items fact.now bit end) }
     ensures stopped { IfOk result (λ end. LemmaStopped (P.cancels port.old) (P.cancels port.new) end) }
     ensures asked { OnOk result (NeverFell (P.polls port.old) (P.polls port.new)) }
 {
     if is_known(lemmas.items().as_slice(), bit) {
+        return Ok(LemmaEnd::Vain);
+    }
+    if is_denied(ssa, fact, runs, bit) {
         return Ok(LemmaEnd::Vain);
     }
     let candidate = candidate_fact(alloc, fact, bit)?;

@@ -6,6 +6,7 @@ mod candidates;
 mod checking;
 mod citing;
 mod clause_search;
+mod denials;
 mod entry;
 mod facts;
 mod inputs;

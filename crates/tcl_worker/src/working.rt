@@ -31,10 +31,11 @@ use tcl_port::Port;
 /// First the intervals are tried, then the assignments of at most 20 free bits are walked, as many as the budget allows. An
 /// algebraic claim is reduced. The clauses of a range or exactness claim are searched, where they are not too many. Where more
 /// lemmas are wanted, the highest bits of the claim's variables are tried before that, each with the value 0 and then 1, by at
-/// most `budget` and at most 256 derived clauses: the first that is shown, and is no lemma yet, is the answer. Else the clauses
-/// are searched by at most `budget` derived clauses, with all the lemmas among the hypotheses where there are some and the
-/// clauses are not too many with them, and where this gives no proof without them. The port is polled before each 1,000 derived clauses, and before a reduction. The only error is
-/// that memory has run out.
+/// most `budget` and at most 256 derived clauses: the first that is shown, and is no lemma yet, is the answer. One that a run
+/// from a trial input denies, in which the hypotheses hold, is not searched. Else the clauses are searched by at most `budget`
+/// derived clauses, with all the lemmas among the hypotheses where there are some and the clauses are not too many with them,
+/// and where this gives no proof without them. The port is polled before each 1,000 derived clauses, and before a reduction.
+/// The only error is that memory has run out.
 pub fn work<P: Port>(
     alloc: Global,
     ssa: &Ssa,
