@@ -13,6 +13,8 @@ const WALKED: &str = "in u4 x\nassert rng x & x = x\nassert rng x < 15@u4\nend";
 
 const SEARCHED: &str = "in u32 x\nin u32 y\nassert rng x & y = y & x\nend";
 
+const SOUGHT: &str = "in u32 x\nin u32 y\npre rng x ^ y = 5@u32\nassert rng x & y = y & x\nend";
+
 const REDUCED: &str = "in u32 x\nin u32 y\nassert alg x*y = y*x\nassert alg x*x = y*y\nend";
 
 const LATER: &str = "in u32 x\nin u32 y\nassume alg x = y\nassert alg x*x = y*y\nend";
@@ -55,17 +57,20 @@ const ENDS: &[(&str, u32, bool, u64, u32, &str)] = &[
     (SEARCHED, 0, false, 1, 1000, "nothing, 1 polls"),
     (SEARCHED, 0, false, 0, 1, "ended steps 1, 1 polls"),
     (SEARCHED, 0, false, 0, 2, "ended steps 2, 1 polls"),
-    // Four candidates for lemmas are searched before; each asks the port.
+    // Each of the four candidates for lemmas is denied by a run, so none is searched.
     (
         SEARCHED,
         0,
         true,
         0,
         1000,
-        "shown goal 0 by 0 lines, 5 polls",
+        "shown goal 0 by 0 lines, 1 polls",
     ),
     (SEARCHED, 0, true, 1, 1000, "nothing, 1 polls"),
-    (SEARCHED, 0, true, 2, 1000, "nothing, 2 polls"),
+    // No run that is tried meets the precondition: four candidates are searched before; each asks the port.
+    (SOUGHT, 0, true, 0, 1000, "shown goal 0 by 1 lines, 5 polls"),
+    (SOUGHT, 0, true, 1, 1000, "nothing, 1 polls"),
+    (SOUGHT, 0, true, 2, 1000, "nothing, 2 polls"),
     // By reduction, after one poll. The break is the first trial input that refutes the goal.
     (
         REDUCED,
